@@ -1,0 +1,18 @@
+-- A job as contracts see it.
+use Rattle.std.specs.Prelude.{◌≡◌, ℕ, ◌≤◌, List, length}
+use Rattle.std.specs.List.{All}
+use Rattle.pmsi_model.specs.declared.job.Geometry.{Geometry}
+use Rattle.pmsi_model.specs.declared.limits.TheConstants.{MAX_TEXT_WORDS}
+use Rattle.pmsi_model.specs.Geometry.{IsGeometry}
+
+pub record JobValue : Type 0 where
+  pub shape : Geometry
+  pub texts : List (List ℕ)
+  pub start : List ℕ
+
+-- a job is within the limits, with a text per core and the start bytes of its whole memory
+pub record IsJob (job : JobValue) : Type 0 where
+  pub shape : IsGeometry job.shape
+  pub texts : length job.texts ≡ job.shape.cores
+  pub text_words : All (λ text. length text ≤ MAX_TEXT_WORDS) job.texts
+  pub start : length job.start ≡ job.shape.memory

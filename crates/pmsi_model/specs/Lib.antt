@@ -1,0 +1,4 @@
+pub mod Geometry
+pub mod Job
+pub mod Image
+pub mod Access
