@@ -1,5 +1,5 @@
 -- A job as contracts see it.
-use Rattle.std.specs.Prelude.{◌≡◌, ℕ, ◌≤◌, List, length}
+use Rattle.std.specs.Prelude.{◌≡◌, ℕ, ◌≤◌, List, [], length, slice_index_or}
 use Rattle.std.specs.List.{All}
 use Rattle.pmsi_model.specs.declared.job.Geometry.{Geometry}
 use Rattle.pmsi_model.specs.declared.limits.TheConstants.{MAX_TEXT_WORDS}
@@ -16,3 +16,7 @@ pub record IsJob (job : JobValue) : Type 0 where
   pub texts : length job.texts ≡ job.shape.cores
   pub text_words : All (λ text. length text ≤ MAX_TEXT_WORDS) job.texts
   pub start : length job.start ≡ job.shape.memory
+
+-- the text of a core
+abbrev pub text_of : JobValue → ℕ → List ℕ
+text_of job core = slice_index_or job.texts core []

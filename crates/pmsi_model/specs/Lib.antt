@@ -2,3 +2,16 @@ pub mod Geometry
 pub mod Job
 pub mod Image
 pub mod Access
+pub mod Words
+pub mod Instruction
+pub mod Effect
+pub mod Slots
+pub mod Machine
+pub mod Phase
+pub mod Bus
+pub mod Run
+pub mod Rows
+pub mod Coherent
+pub mod Waiting
+pub mod Latest
+pub mod Examples

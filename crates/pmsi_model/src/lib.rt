@@ -5,6 +5,7 @@
 ghost use Rattle.std.specs.Prelude.{◌≡◌};
 ghost use Rattle.pmsi_model.specs.Access.{kind_of, width_of};
 
+pub mod examples;
 mod image;
 mod instr;
 mod job;
