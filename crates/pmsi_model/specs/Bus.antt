@@ -1,5 +1,5 @@
 -- What the owner of a slot does on the bus, and what each action does to the machine.
-use Rattle.std.specs.Prelude.{ℕ, zero, suc, ◌+◌, List, [], ◌∷◌, ◌++◌, drop, Bool, true, false, not, ◌==◌, ◌&&◌, ◌||◌, Option, Some, None, is_some, is_none, if◌then◌else◌}
+use Rattle.std.specs.Prelude.{ℕ, List, [], ◌∷◌, ◌++◌, drop, Bool, true, false, not, ◌==◌, ◌&&◌, ◌||◌, Option, Some, None, is_some, is_none, if◌then◌else◌}
 use Rattle.std.specs.Option.{option_map}
 use Rattle.pmsi_model.specs.declared.Action.{Action}
 use Rattle.pmsi_model.specs.declared.Action.TheVariants.{Idle, Post, Fill, PostFill, Back}
@@ -14,7 +14,7 @@ use Rattle.pmsi_model.specs.declared.Turn.TheVariants.{Request as RequestTurn, W
 use Rattle.pmsi_model.specs.declared.Want.{Want}
 use Rattle.pmsi_model.specs.Job.{JobValue}
 use Rattle.pmsi_model.specs.Phase.{met_bytes, memory_after, retired_with}
-use Rattle.pmsi_model.specs.Machine.{Machine, CoreState, Request, with_core, mode_of, is_modified, is_shared, without, to_front, with_mode, append_once, is_write, first_of, has_request, has_write, removed, mode_in, nobody_owns}
+use Rattle.pmsi_model.specs.Machine.{Machine, CoreState, with_core, mode_of, is_shared, without, to_front, with_mode, append_once, is_write, first_of, has_request, has_write, removed, mode_in, nobody_owns}
 
 -- ---- what is possible
 

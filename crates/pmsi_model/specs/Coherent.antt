@@ -8,7 +8,7 @@ use Rattle.pmsi_model.specs.declared.Status.TheVariants.{Running}
 use Rattle.pmsi_model.specs.declared.Want.{Want}
 use Rattle.pmsi_model.specs.Geometry.{set_of}
 use Rattle.pmsi_model.specs.Machine.{Machine, Request, mode_of, mode_in, has_line, has_request, request_of}
-use Rattle.pmsi_model.specs.Phase.{set_lines, is_running}
+use Rattle.pmsi_model.specs.Phase.{set_lines}
 
 -- no line is held twice
 abbrev pub HoldsEachOnce : List (ℕ × Mode) → Type 0

@@ -1,5 +1,5 @@
 -- What an instruction does to a core's registers and pc, what it asks of memory, and when it halts the core.
-use Rattle.std.specs.Prelude.{ℕ, ◌+◌, ◌-◌, ◌*◌, ◌/◌, ◌%◌, ◌^◌, ℤ, List, Bool, not, ◌==◌, nat_lt, if◌then◌else◌, slice_index, slice_set, replicate, bit_and, bit_or, bit_xor}
+use Rattle.std.specs.Prelude.{ℕ, ◌+◌, ◌-◌, ◌*◌, ◌/◌, ◌%◌, ◌^◌, List, Bool, not, ◌==◌, nat_lt, if◌then◌else◌, slice_index, slice_set, replicate, bit_and, bit_or, bit_xor}
 use Rattle.pmsi_model.specs.declared.Access.{Access}
 use Rattle.pmsi_model.specs.declared.AccessOp.{AccessOp}
 use Rattle.pmsi_model.specs.declared.AccessOp.TheVariants.{Load as LoadAccess, Store as StoreAccess, Amo as AmoAccess}

@@ -1,17 +1,240 @@
--- Worked examples: small jobs, and what the definitions say of them.
-use Rattle.std.specs.Prelude.{◌≡◌, ℕ, List, [], ◌∷◌, replicate, true, false, Option, Some, None}
+-- Worked examples: small jobs, and what the definitions say of their runs. The instructions are given as words.
+use Rattle.std.specs.Prelude.{◌≡◌, ℕ, ◌+◌, List, [], ◌∷◌, replicate, map, true, false, ◌==◌, if◌then◌else◌, Option, Some, None}
 use Rattle.pmsi_model.specs.declared.job.Geometry.{Geometry}
-use Rattle.pmsi_model.specs.declared.Action.{Action}
 use Rattle.pmsi_model.specs.declared.Action.TheVariants.{Idle, Post, Fill, PostFill, Back}
+use Rattle.pmsi_model.specs.declared.Halt.TheVariants.{Exit}
+use Rattle.pmsi_model.specs.declared.Kind.{Kind}
+use Rattle.pmsi_model.specs.declared.Kind.TheVariants.{Read, Write}
+use Rattle.pmsi_model.specs.declared.Mode.{Mode}
+use Rattle.pmsi_model.specs.declared.Mode.TheVariants.{Shared, Modified}
 use Rattle.pmsi_model.specs.declared.Name.TheVariants.{GetS, GetM, Upg}
+use Rattle.pmsi_model.specs.declared.Row.{Row}
+use Rattle.pmsi_model.specs.declared.Status.{Status}
+use Rattle.pmsi_model.specs.declared.Status.TheVariants.{Running, Halted}
+use Rattle.pmsi_model.specs.declared.Touch.{Touch}
 use Rattle.pmsi_model.specs.Job.{JobValue}
-use Rattle.pmsi_model.specs.Run.{records}
+use Rattle.pmsi_model.specs.Slots.{bound_of}
+use Rattle.pmsi_model.specs.Machine.{CoreState}
+use Rattle.pmsi_model.specs.Run.{machine_at, records, touches_of}
+use Rattle.pmsi_model.specs.Rows.{rows_of, open_rows_of, wait_of, age_of}
+use Rattle.pmsi_model.specs.Waiting.{slots_left}
 
+-- ---- instructions
+
+abbrev pub nop : ℕ
+nop = 0x00000013
+
+-- addi x5, x0, 7
+abbrev pub addi_x5_7 : ℕ
+addi_x5_7 = 0x00700293
+
+-- lw x5, 0(x0) and so on
+abbrev pub lw_x5_0 : ℕ
+lw_x5_0 = 0x00002283
+
+abbrev pub lw_x6_0 : ℕ
+lw_x6_0 = 0x00002303
+
+abbrev pub lw_x6_16 : ℕ
+lw_x6_16 = 0x01002303
+
+abbrev pub lw_x7_0 : ℕ
+lw_x7_0 = 0x00002383
+
+abbrev pub lw_x8_32 : ℕ
+lw_x8_32 = 0x02002403
+
+abbrev pub sw_x5_0 : ℕ
+sw_x5_0 = 0x00502023
+
+abbrev pub sw_x10_0 : ℕ
+sw_x10_0 = 0x00a02023
+
+abbrev pub sw_x11_0 : ℕ
+sw_x11_0 = 0x00b02023
+
+abbrev pub sw_x11_16 : ℕ
+sw_x11_16 = 0x00b02823
+
+abbrev pub ecall : ℕ
+ecall = 0x00000073
+
+-- ---- jobs
+
+-- lines of four words, one set of so many ways, and 64 bytes of memory
 abbrev pub small : ℕ → ℕ → ℕ → Geometry
-small cores quantum slots = record { cores = cores; quantum = quantum; line_words = 4; sets = 1; ways = 1; memory = 64; slots = slots }
+small cores ways slots = record { cores = cores; quantum = 1; line_words = 4; sets = 1; ways = ways; memory = 64; slots = slots }
+
+abbrev pub job_of : Geometry → List (List ℕ) → JobValue
+job_of shape texts = record { shape = shape; texts = texts; start = replicate 64 0 }
+
+-- ---- what is read off a run
+
+-- the numbers of a list that aren't 0, each with its place
+abbrev pub nonzero_from : ℕ → List ℕ → List (ℕ × ℕ)
+nonzero_from place [] = []
+nonzero_from place (n ∷ ns) = if n == 0 then nonzero_from (place + 1) ns else (place, n) ∷ nonzero_from (place + 1) ns
+
+-- how a core ends: its registers and memory's bytes are given where they aren't 0
+pub record CoreEnd : Type 0 where
+  pub pc : ℕ
+  pub retired : ℕ
+  pub status : Status
+  pub regs : List (ℕ × ℕ)
+  pub held : List (ℕ × Mode)
+
+abbrev pub core_end : ℕ → ℕ → Status → List (ℕ × ℕ) → List (ℕ × Mode) → CoreEnd
+core_end pc retired status regs held = record { pc = pc; retired = retired; status = status; regs = regs; held = held }
+
+abbrev pub end_of : CoreState → CoreEnd
+end_of k = core_end k.pc k.retired k.status (nonzero_from 0 k.regs) k.held
+
+abbrev pub core_at_end : JobValue → ℕ → CoreEnd
+core_at_end job c = end_of ((machine_at job job.shape.slots).cores c)
+
+abbrev pub memory_at_end : JobValue → List (ℕ × ℕ)
+memory_at_end job = nonzero_from 0 (machine_at job job.shape.slots).memory
+
+abbrev pub row : ℕ → ℕ → Kind → ℕ → ℕ → ℕ → Row
+row core line kind issue post fill = record { core = core; line = line; kind = kind; issue = issue; post = post; fill = fill }
+
+abbrev pub touch : ℕ → ℕ → Kind → ℕ → ℕ → ℕ → Touch
+touch slot core kind address old new = record { slot = slot; core = core; address = address; width = 4; kind = kind; old = old; new = new }
+
+abbrev pub left_at : JobValue → ℕ → ℕ → Option ℕ
+left_at job slot c = slots_left job.shape (machine_at job slot) c
+
+abbrev pub exited : ℕ → Status
+exited code = Halted (Exit code)
+
+-- ---- one core adds and exits
+
+abbrev pub adds_and_exits : JobValue
+adds_and_exits = job_of (small 1 1 4) ((addi_x5_7 ∷ ecall ∷ []) ∷ [])
+
+pub record AddsAndExits : Type 0 where
+  pub core : core_at_end adds_and_exits 0 ≡ core_end 4 1 (exited 0) ((5, 7) ∷ (11, 1) ∷ []) []
+  pub memory : memory_at_end adds_and_exits ≡ []
+  pub rows : rows_of adds_and_exits 4 ≡ []
+  pub open_rows : open_rows_of adds_and_exits 4 ≡ []
+  pub bound : bound_of adds_and_exits.shape ≡ 8
+
+-- ---- the same job before its first slot
+
+abbrev pub takes_no_slot : JobValue
+takes_no_slot = job_of (small 1 1 0) ((addi_x5_7 ∷ ecall ∷ []) ∷ [])
+
+pub record TakesNoSlot : Type 0 where
+  pub core : core_at_end takes_no_slot 0 ≡ core_end 0 0 Running ((11, 1) ∷ []) []
+  pub memory : memory_at_end takes_no_slot ≡ []
+  pub rows : rows_of takes_no_slot 0 ≡ []
+  pub open_rows : open_rows_of takes_no_slot 0 ≡ []
+
+-- ---- two cores write one word; the first owner halts, and still writes the line back
 
 abbrev pub two_writers : JobValue
-two_writers = let text : List ℕ = 0x00700293 ∷ 0x00502023 ∷ 0x00000073 ∷ [] in record { shape = small 2 1 6; texts = text ∷ text ∷ []; start = replicate 64 0 }
+two_writers = let text : List ℕ = addi_x5_7 ∷ sw_x5_0 ∷ ecall ∷ [] in job_of (small 2 1 6) (text ∷ text ∷ [])
 
 pub record TwoWriters : Type 0 where
   pub actions : records two_writers 6 ≡ Idle ∷ PostFill GetM 0 ∷ Post GetM 0 ∷ Back 0 false ∷ Fill 0 ∷ Idle ∷ []
+  pub core_0 : core_at_end two_writers 0 ≡ core_end 8 2 (exited 0) ((5, 7) ∷ (11, 2) ∷ []) ((0, Modified) ∷ [])
+  pub core_1 : core_at_end two_writers 1 ≡ core_end 8 2 (exited 1) ((5, 7) ∷ (10, 1) ∷ (11, 2) ∷ []) []
+  pub halted_owner : ((machine_at two_writers 3).cores 1).status ≡ exited 1
+  pub memory : memory_at_end two_writers ≡ (0, 7) ∷ []
+  pub rows : rows_of two_writers 6 ≡ row 1 0 Write 1 1 1 ∷ row 0 0 Write 1 2 4 ∷ []
+  pub waits : map wait_of (rows_of two_writers 6) ≡ 1 ∷ 4 ∷ []
+  pub open_rows : open_rows_of two_writers 6 ≡ []
+  pub touches : touches_of two_writers 6 ≡ touch 1 1 Write 0 0 7 ∷ touch 4 0 Write 0 7 7 ∷ []
+  pub left_0 : map (λ slot. left_at two_writers slot 0) (2 ∷ 3 ∷ 4 ∷ []) ≡ Some 25 ∷ Some 5 ∷ Some 3 ∷ []
+  pub left_1 : map (λ slot. left_at two_writers slot 1) (2 ∷ 3 ∷ 4 ∷ []) ≡ None ∷ None ∷ None ∷ []
+  pub bound : bound_of two_writers.shape ≡ 36
+
+-- ---- the same job, cut off while a request is open
+
+abbrev pub open_at_the_end : JobValue
+open_at_the_end = let text : List ℕ = addi_x5_7 ∷ sw_x5_0 ∷ ecall ∷ [] in job_of (small 2 1 4) (text ∷ text ∷ [])
+
+pub record OpenAtTheEnd : Type 0 where
+  pub core_0 : core_at_end open_at_the_end 0 ≡ core_end 4 1 Running ((5, 7) ∷ (11, 2) ∷ []) []
+  pub core_1 : core_at_end open_at_the_end 1 ≡ core_end 8 2 (exited 1) ((5, 7) ∷ (10, 1) ∷ (11, 2) ∷ []) []
+  pub rows : rows_of open_at_the_end 4 ≡ row 1 0 Write 1 1 1 ∷ []
+  pub open_rows : open_rows_of open_at_the_end 4 ≡ record { core = 0; line = 0; kind = Write; issue = 1; post = Some 2 } ∷ []
+  pub ages : map (age_of 4) (open_rows_of open_at_the_end 4) ≡ 3 ∷ []
+
+-- ---- a reader behind an owner: both keep the line
+
+abbrev pub reader_behind_an_owner : JobValue
+reader_behind_an_owner = job_of (small 2 1 7) ((addi_x5_7 ∷ sw_x5_0 ∷ ecall ∷ []) ∷ (nop ∷ nop ∷ lw_x6_0 ∷ ecall ∷ []) ∷ [])
+
+pub record ReaderBehindAnOwner : Type 0 where
+  pub actions : records reader_behind_an_owner 7 ≡ Idle ∷ Idle ∷ PostFill GetM 0 ∷ Post GetS 0 ∷ Back 0 true ∷ Fill 0 ∷ Idle ∷ []
+  pub core_0 : core_at_end reader_behind_an_owner 0 ≡ core_end 8 2 (exited 0) ((5, 7) ∷ (11, 2) ∷ []) ((0, Shared) ∷ [])
+  pub core_1 : core_at_end reader_behind_an_owner 1 ≡ core_end 12 3 (exited 1) ((6, 7) ∷ (10, 1) ∷ (11, 2) ∷ []) ((0, Shared) ∷ [])
+  pub memory : memory_at_end reader_behind_an_owner ≡ (0, 7) ∷ []
+  pub waits : map wait_of (rows_of reader_behind_an_owner 7) ≡ 2 ∷ 4 ∷ []
+  pub left : left_at reader_behind_an_owner 4 1 ≡ Some 5
+  pub left_none : left_at reader_behind_an_owner 4 0 ≡ None
+
+-- ---- a read is served before a write that was posted later, and keeps no copy
+
+abbrev pub read_before_write : JobValue
+read_before_write = job_of (small 3 1 7) ((sw_x11_0 ∷ ecall ∷ []) ∷ (lw_x6_0 ∷ ecall ∷ []) ∷ (sw_x10_0 ∷ ecall ∷ []) ∷ [])
+
+pub record ReadBeforeWrite : Type 0 where
+  pub actions : records read_before_write 7 ≡ PostFill GetM 0 ∷ Post GetS 0 ∷ Post GetM 0 ∷ Back 0 false ∷ Fill 0 ∷ Fill 0 ∷ Idle ∷ []
+  pub core_0 : core_at_end read_before_write 0 ≡ core_end 4 1 (exited 0) ((11, 3) ∷ []) []
+  pub core_1 : core_at_end read_before_write 1 ≡ core_end 4 1 (exited 1) ((6, 3) ∷ (10, 1) ∷ (11, 3) ∷ []) []
+  pub core_2 : core_at_end read_before_write 2 ≡ core_end 4 1 (exited 2) ((10, 2) ∷ (11, 3) ∷ []) ((0, Modified) ∷ [])
+  pub memory : memory_at_end read_before_write ≡ (0, 2) ∷ []
+  pub waits : map wait_of (rows_of read_before_write 7) ≡ 1 ∷ 5 ∷ 6 ∷ []
+  pub bound : bound_of read_before_write.shape ≡ 96
+
+-- ---- two holders of a shared line store: the first upgrades, the other has lost its copy by then
+
+abbrev pub shared_holders_store : JobValue
+shared_holders_store = let text : List ℕ = lw_x6_0 ∷ sw_x10_0 ∷ ecall ∷ [] in job_of (small 2 1 7) (text ∷ text ∷ [])
+
+pub record SharedHoldersStore : Type 0 where
+  pub actions : records shared_holders_store 7 ≡ PostFill GetS 0 ∷ PostFill GetS 0 ∷ PostFill Upg 0 ∷ Post GetM 0 ∷ Back 0 false ∷ Fill 0 ∷ Idle ∷ []
+  pub rows : rows_of shared_holders_store 7 ≡ row 0 0 Read 0 0 0 ∷ row 1 0 Read 0 1 1 ∷ row 0 0 Write 1 2 2 ∷ row 1 0 Write 2 3 5 ∷ []
+  pub waits : map wait_of (rows_of shared_holders_store 7) ≡ 1 ∷ 2 ∷ 2 ∷ 4 ∷ []
+  pub memory : memory_at_end shared_holders_store ≡ (0, 1) ∷ []
+
+-- ---- a modified victim is written back before the request is posted
+
+abbrev pub modified_victim : JobValue
+modified_victim = job_of (small 1 1 4) ((sw_x11_0 ∷ sw_x11_16 ∷ ecall ∷ []) ∷ [])
+
+pub record ModifiedVictim : Type 0 where
+  pub actions : records modified_victim 4 ≡ PostFill GetM 0 ∷ Back 0 false ∷ PostFill GetM 1 ∷ Idle ∷ []
+  pub core : core_at_end modified_victim 0 ≡ core_end 8 2 (exited 0) ((11, 1) ∷ []) ((1, Modified) ∷ [])
+  pub memory : memory_at_end modified_victim ≡ (0, 1) ∷ (16, 1) ∷ []
+  pub waits : map wait_of (rows_of modified_victim 4) ≡ 1 ∷ 2 ∷ []
+
+-- ---- a victim that another core had asked for already is written back once
+
+abbrev pub victim_already_demanded : JobValue
+victim_already_demanded = job_of (small 2 1 6) ((sw_x11_0 ∷ nop ∷ sw_x11_16 ∷ ecall ∷ []) ∷ (lw_x6_0 ∷ ecall ∷ []) ∷ [])
+
+pub record VictimAlreadyDemanded : Type 0 where
+  pub actions : records victim_already_demanded 6 ≡ PostFill GetM 0 ∷ Post GetS 0 ∷ Back 0 false ∷ Fill 0 ∷ PostFill GetM 1 ∷ Idle ∷ []
+  pub core_0 : core_at_end victim_already_demanded 0 ≡ core_end 12 3 (exited 0) ((11, 2) ∷ []) ((1, Modified) ∷ [])
+  pub core_1 : core_at_end victim_already_demanded 1 ≡ core_end 4 1 (exited 1) ((6, 2) ∷ (10, 1) ∷ (11, 2) ∷ []) ((0, Shared) ∷ [])
+  pub rows : rows_of victim_already_demanded 6 ≡ row 0 0 Write 0 0 0 ∷ row 1 0 Read 0 1 3 ∷ row 0 1 Write 2 4 4 ∷ []
+  pub waits : map wait_of (rows_of victim_already_demanded 6) ≡ 1 ∷ 4 ∷ 3 ∷ []
+
+-- ---- the least recently used line is the victim, and not the one that came first
+
+abbrev pub least_recently_used : JobValue
+least_recently_used = job_of (small 1 2 5) ((lw_x5_0 ∷ lw_x6_16 ∷ lw_x7_0 ∷ lw_x8_32 ∷ ecall ∷ []) ∷ [])
+
+pub record LeastRecentlyUsed : Type 0 where
+  pub actions : records least_recently_used 5 ≡ PostFill GetS 0 ∷ PostFill GetS 1 ∷ Idle ∷ PostFill GetS 2 ∷ Idle ∷ []
+  pub core : core_at_end least_recently_used 0 ≡ core_end 16 4 (exited 0) ((11, 1) ∷ []) ((2, Shared) ∷ (0, Shared) ∷ [])
+  pub dropped : ((machine_at least_recently_used 3).cores 0).held ≡ (0, Shared) ∷ (1, Shared) ∷ []
+  pub waits : map wait_of (rows_of least_recently_used 5) ≡ 1 ∷ 1 ∷ 1 ∷ []
+
+-- ---- the bound of the largest machine
+
+pub record LargestBound : Type 0 where
+  pub bound : bound_of (small 16 1 0) ≡ 9248

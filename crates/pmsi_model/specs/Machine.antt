@@ -1,6 +1,6 @@
 -- The state of the written machine: one flat memory, the posted requests in order, and per core what it holds and wants.
 -- There are no copies of data in it, no ages, and no states of lines that are on their way.
-use Rattle.std.specs.Prelude.{ℕ, zero, suc, ◌+◌, List, [], ◌∷◌, ◌++◌, map, Bool, true, false, not, ◌==◌, ◌&&◌, ◌||◌, Option, Some, None, is_none, if◌then◌else◌}
+use Rattle.std.specs.Prelude.{ℕ, zero, suc, ◌+◌, List, [], ◌∷◌, ◌++◌, map, Bool, true, false, not, ◌==◌, ◌&&◌, ◌||◌, Option, Some, None, if◌then◌else◌}
 use Rattle.std.specs.List.{filter, list_any}
 use Rattle.pmsi_model.specs.declared.Kind.{Kind}
 use Rattle.pmsi_model.specs.declared.Kind.TheVariants.{Read, Write}

@@ -1,5 +1,5 @@
 -- A core's phase of a slot: at most a quantum of instructions, while it runs and has no want.
-use Rattle.std.specs.Prelude.{ℕ, zero, suc, ◌+◌, ◌-◌, ◌/◌, List, [], ◌∷◌, ◌++◌, length, take, drop, slice_get, slice_set, slice_index, Bool, true, false, ◌==◌, ◌&&◌, Option, Some, None, is_some, is_none, if◌then◌else◌}
+use Rattle.std.specs.Prelude.{ℕ, zero, suc, ◌+◌, ◌/◌, List, [], ◌∷◌, ◌++◌, length, take, drop, slice_get, slice_set, Bool, true, false, ◌==◌, ◌&&◌, Option, Some, None, is_some, is_none, if◌then◌else◌}
 use Rattle.std.specs.List.{filter, last_or}
 use Rattle.pmsi_model.specs.declared.job.Geometry.{Geometry}
 use Rattle.pmsi_model.specs.declared.Access.{Access}
@@ -8,11 +8,9 @@ use Rattle.pmsi_model.specs.declared.Halt.TheVariants.{FetchRange, Illegal}
 use Rattle.pmsi_model.specs.declared.Kind.{Kind}
 use Rattle.pmsi_model.specs.declared.Kind.TheVariants.{Read, Write}
 use Rattle.pmsi_model.specs.declared.Mode.{Mode}
-use Rattle.pmsi_model.specs.declared.Mode.TheVariants.{Shared, Modified}
 use Rattle.pmsi_model.specs.declared.Status.{Status}
 use Rattle.pmsi_model.specs.declared.Status.TheVariants.{Running, Halted}
 use Rattle.pmsi_model.specs.declared.Touch.{Touch}
-use Rattle.pmsi_model.specs.declared.Want.{Want}
 use Rattle.pmsi_model.specs.declared.instr.Instr.{Instr}
 use Rattle.pmsi_model.specs.Geometry.{line_of, set_of}
 use Rattle.pmsi_model.specs.Job.{JobValue, text_of}
