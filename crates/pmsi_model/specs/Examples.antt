@@ -13,7 +13,7 @@ use Rattle.pmsi_model.specs.declared.Status.{Status}
 use Rattle.pmsi_model.specs.declared.Status.TheVariants.{Running, Halted}
 use Rattle.pmsi_model.specs.declared.Touch.{Touch}
 use Rattle.pmsi_model.specs.Job.{JobValue}
-use Rattle.pmsi_model.specs.Slots.{bound_of}
+use Rattle.pmsi_model.specs.Slots.{plan_of, bound_of}
 use Rattle.pmsi_model.specs.Machine.{CoreState}
 use Rattle.pmsi_model.specs.Run.{machine_at, records, touches_of}
 use Rattle.pmsi_model.specs.Rows.{rows_of, open_rows_of, wait_of, age_of}
@@ -102,7 +102,7 @@ abbrev pub touch : ℕ → ℕ → Kind → ℕ → ℕ → ℕ → Touch
 touch slot core kind address old new = record { slot = slot; core = core; address = address; width = 4; kind = kind; old = old; new = new }
 
 abbrev pub left_at : JobValue → ℕ → ℕ → Option ℕ
-left_at job slot c = slots_left job.shape (machine_at job slot) c
+left_at job slot c = slots_left (plan_of job) (machine_at job slot) c
 
 abbrev pub exited : ℕ → Status
 exited code = Halted (Exit code)
@@ -117,7 +117,7 @@ pub record AddsAndExits : Type 0 where
   pub memory : memory_at_end adds_and_exits ≡ []
   pub rows : rows_of adds_and_exits 4 ≡ []
   pub open_rows : open_rows_of adds_and_exits 4 ≡ []
-  pub bound : bound_of adds_and_exits.shape ≡ 8
+  pub bound : bound_of (plan_of adds_and_exits) ≡ 8
 
 -- ---- the same job before its first slot
 
@@ -147,7 +147,7 @@ pub record TwoWriters : Type 0 where
   pub touches : touches_of two_writers 6 ≡ touch 1 1 Write 0 0 7 ∷ touch 4 0 Write 0 7 7 ∷ []
   pub left_0 : map (λ slot. left_at two_writers slot 0) (2 ∷ 3 ∷ 4 ∷ []) ≡ Some 25 ∷ Some 5 ∷ Some 3 ∷ []
   pub left_1 : map (λ slot. left_at two_writers slot 1) (2 ∷ 3 ∷ 4 ∷ []) ≡ None ∷ None ∷ None ∷ []
-  pub bound : bound_of two_writers.shape ≡ 36
+  pub bound : bound_of (plan_of two_writers) ≡ 36
 
 -- ---- the same job, cut off while a request is open
 
@@ -187,7 +187,7 @@ pub record ReadBeforeWrite : Type 0 where
   pub core_2 : core_at_end read_before_write 2 ≡ core_end 4 1 (exited 2) ((10, 2) ∷ (11, 3) ∷ []) ((0, Modified) ∷ [])
   pub memory : memory_at_end read_before_write ≡ (0, 2) ∷ []
   pub waits : map wait_of (rows_of read_before_write 7) ≡ 1 ∷ 5 ∷ 6 ∷ []
-  pub bound : bound_of read_before_write.shape ≡ 96
+  pub bound : bound_of (plan_of read_before_write) ≡ 96
 
 -- ---- two holders of a shared line store: the first upgrades, the other has lost its copy by then
 
@@ -237,4 +237,4 @@ pub record LeastRecentlyUsed : Type 0 where
 -- ---- the bound of the largest machine
 
 pub record LargestBound : Type 0 where
-  pub bound : bound_of (small 16 1 0) ≡ 9248
+  pub bound : bound_of (plan_of (job_of (small 16 1 0) [])) ≡ 9248

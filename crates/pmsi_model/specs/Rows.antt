@@ -7,7 +7,7 @@ use Rattle.pmsi_model.specs.declared.OpenRow.{OpenRow}
 use Rattle.pmsi_model.specs.declared.Row.{Row}
 use Rattle.pmsi_model.specs.declared.Want.{Want}
 use Rattle.pmsi_model.specs.Job.{JobValue}
-use Rattle.pmsi_model.specs.Slots.{owner_of_slot}
+use Rattle.pmsi_model.specs.Slots.{plan_of, owner_of_slot}
 use Rattle.pmsi_model.specs.Machine.{Machine}
 use Rattle.pmsi_model.specs.Run.{machine_at, after_phases, record_at}
 
@@ -25,7 +25,7 @@ action_row x c (Back line kept) = []
 
 -- the requests that are served in a slot: one at most
 abbrev pub slot_rows : JobValue → Machine → Action → List Row
-slot_rows job x action = action_row (after_phases job x) (owner_of_slot job.shape x.slot) action
+slot_rows job x action = action_row (after_phases job x) (owner_of_slot (plan_of job) x.slot) action
 
 -- the requests served in the first slots, by the slot of their fill
 unfoldable pub rows_of : JobValue → ℕ → List Row

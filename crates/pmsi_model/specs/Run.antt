@@ -7,7 +7,7 @@ use Rattle.pmsi_model.specs.declared.Touch.{Touch}
 use Rattle.pmsi_model.specs.declared.Turn.TheVariants.{Request as RequestTurn}
 use Rattle.pmsi_model.specs.declared.Want.{Want}
 use Rattle.pmsi_model.specs.Job.{JobValue}
-use Rattle.pmsi_model.specs.Slots.{owner_of_slot}
+use Rattle.pmsi_model.specs.Slots.{plan_of, owner_of_slot}
 use Rattle.pmsi_model.specs.Effect.{start_regs}
 use Rattle.pmsi_model.specs.Machine.{Machine, CoreState}
 use Rattle.pmsi_model.specs.Phase.{touch_of, phases, phases_touches}
@@ -35,13 +35,13 @@ after_phases job x = phases job job.shape.cores x
 
 -- the owner's action in the slot
 abbrev pub slot_action : JobValue → Machine → Action
-slot_action job x = action_of job (after_phases job x) (owner_of_slot job.shape x.slot)
+slot_action job x = action_of job (after_phases job x) (owner_of_slot (plan_of job) x.slot)
 
 -- one slot: each core's phase, in core order, and then the owner's action
 unfoldable pub slot_done : JobValue → Machine → Machine
 slot_done job x =
     let y = after_phases job x in
-    let c = owner_of_slot job.shape x.slot in
+    let c = owner_of_slot (plan_of job) x.slot in
     record (after_action y c (action_of job y c)) { slot = x.slot + 1 }
 
 -- the machine at the boundary after so many slots
@@ -74,7 +74,7 @@ action_touch x c (Back line kept) = []
 abbrev pub slot_touches : JobValue → Machine → List Touch
 slot_touches job x =
     let y = after_phases job x in
-    let c = owner_of_slot job.shape x.slot in
+    let c = owner_of_slot (plan_of job) x.slot in
     phases_touches job job.shape.cores x ++ action_touch y c (action_of job y c)
 
 -- the accesses of the first slots, in bus order

@@ -1,21 +1,28 @@
--- Whose slot it is: the cores own the slots in turn.
+-- Whose slot it is. A plan says which core owns a slot: it is the number of cores, which own the slots in turn.
 use Rattle.std.specs.Prelude.{ℕ, ◌+◌, ◌-◌, ◌*◌, ◌%◌, ◌^◌, if◌then◌else◌, nat_le}
-use Rattle.pmsi_model.specs.declared.job.Geometry.{Geometry}
+use Rattle.pmsi_model.specs.Job.{JobValue}
+
+pub record SlotPlan : Type 0 where
+  pub cores : ℕ
+
+abbrev pub plan_of : JobValue → SlotPlan
+plan_of job = record { cores = job.shape.cores }
 
 -- the core that owns a slot
-abbrev pub owner_of_slot : Geometry → ℕ → ℕ
-owner_of_slot shape slot = slot % shape.cores
+abbrev pub owner_of_slot : SlotPlan → ℕ → ℕ
+owner_of_slot plan slot = slot % plan.cores
 
 -- the greatest number of slots from an own slot of a core to its next own one
-abbrev pub gap_of : Geometry → ℕ
-gap_of shape = shape.cores
+abbrev pub gap_of : SlotPlan → ℕ
+gap_of plan = plan.cores
 
 -- the slots from this one up to and including the core's next own one: from 1 to the gap
-abbrev pub distance : Geometry → ℕ → ℕ → ℕ
-distance shape core slot =
-    let owner = owner_of_slot shape slot in
-    if nat_le owner core then (core - owner) + 1 else ((core + shape.cores) - owner) + 1
+abbrev pub distance : SlotPlan → ℕ → ℕ → ℕ
+distance plan core slot =
+    if nat_le (owner_of_slot plan slot) core
+    then (core - owner_of_slot plan slot) + 1
+    else ((core + plan.cores) - owner_of_slot plan slot) + 1
 
 -- the bound on a wait, in slots, that of the miss and that of the fill counted
-abbrev pub bound_of : Geometry → ℕ
-bound_of shape = 2 * gap_of shape * (shape.cores + 1) ^ 2
+abbrev pub bound_of : SlotPlan → ℕ
+bound_of plan = 2 * gap_of plan * (plan.cores + 1) ^ 2
