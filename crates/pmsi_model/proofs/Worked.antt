@@ -1,52 +1,63 @@
 -- The worked examples: the checker computes each value.
 use Rattle.std.proofs.Common.{refl}
-use Rattle.pmsi_model.specs.Examples.{AddsAndExits, TakesNoSlot, TwoWriters, OpenAtTheEnd, ReaderBehindAnOwner, ReadBeforeWrite, SharedHoldersStore, ModifiedVictim, VictimAlreadyDemanded, LeastRecentlyUsed, LargestBound}
+use Rattle.std.specs.Fmt.{digits}
+use Rattle.pmsi_model.specs.Examples.{AddsAndExits, TakesNoSlot, StoresAndLoads, TwoWriters, OpenAtTheEnd, ReaderBehindAnOwner, ReadBeforeWrite, SharedHoldersStore, ModifiedVictim, VictimAlreadyDemanded, LeastRecentlyUsed, ReadsWords, LargestBound}
 use Rattle.pmsi_model.specs.Instruction.{instr_of}
 use Rattle.pmsi_model.specs.Phase.{instruction, instructions, instruction_touches, phase, phase_touches, phases, phases_touches}
 use Rattle.pmsi_model.specs.Bus.{post, fill, write_back, action_of, after_action}
 use Rattle.pmsi_model.specs.Run.{start_of, slot_done, machine_at, records, touches_of}
 use Rattle.pmsi_model.specs.Rows.{rows_of}
+use Rattle.pmsi_model.specs.Lines.{shape_line, core_line, regs_line, held_line, memory_line, row_line, open_row_line, waits_line}
+use Rattle.pmsi_model.specs.Listing.{listing_of}
 
 pub adds_and_exits : AddsAndExits
-unfolding instr_of instruction instructions instruction_touches phase phase_touches phases phases_touches post fill write_back action_of after_action start_of slot_done machine_at records touches_of rows_of
-adds_and_exits = record { core = refl; memory = refl; rows = refl; open_rows = refl; bound = refl }
+unfolding instr_of instruction instructions instruction_touches phase phase_touches phases phases_touches post fill write_back action_of after_action start_of slot_done machine_at records touches_of rows_of listing_of shape_line core_line regs_line held_line memory_line row_line open_row_line waits_line digits
+adds_and_exits = record { core = refl; memory = refl; rows = refl; open_rows = refl; bound = refl; listing = refl }
 
 pub takes_no_slot : TakesNoSlot
-unfolding instr_of instruction instructions instruction_touches phase phase_touches phases phases_touches post fill write_back action_of after_action start_of slot_done machine_at records touches_of rows_of
+unfolding instr_of instruction instructions instruction_touches phase phase_touches phases phases_touches post fill write_back action_of after_action start_of slot_done machine_at records touches_of rows_of listing_of shape_line core_line regs_line held_line memory_line row_line open_row_line waits_line digits
 takes_no_slot = record { core = refl; memory = refl; rows = refl; open_rows = refl }
 
+pub stores_and_loads : StoresAndLoads
+unfolding instr_of instruction instructions instruction_touches phase phase_touches phases phases_touches post fill write_back action_of after_action start_of slot_done machine_at records touches_of rows_of listing_of shape_line core_line regs_line held_line memory_line row_line open_row_line waits_line digits
+stores_and_loads = record { listing = refl }
+
 pub two_writers : TwoWriters
-unfolding instr_of instruction instructions instruction_touches phase phase_touches phases phases_touches post fill write_back action_of after_action start_of slot_done machine_at records touches_of rows_of
-two_writers = record { actions = refl; core_0 = refl; core_1 = refl; halted_owner = refl; memory = refl; rows = refl; waits = refl; open_rows = refl; touches = refl; left_0 = refl; left_1 = refl; bound = refl }
+unfolding instr_of instruction instructions instruction_touches phase phase_touches phases phases_touches post fill write_back action_of after_action start_of slot_done machine_at records touches_of rows_of listing_of shape_line core_line regs_line held_line memory_line row_line open_row_line waits_line digits
+two_writers = record { actions = refl; core_0 = refl; core_1 = refl; halted_owner = refl; memory = refl; rows = refl; waits = refl; open_rows = refl; touches = refl; left_0 = refl; left_1 = refl; bound = refl; listing = refl }
 
 pub open_at_the_end : OpenAtTheEnd
-unfolding instr_of instruction instructions instruction_touches phase phase_touches phases phases_touches post fill write_back action_of after_action start_of slot_done machine_at records touches_of rows_of
-open_at_the_end = record { core_0 = refl; core_1 = refl; rows = refl; open_rows = refl; ages = refl }
+unfolding instr_of instruction instructions instruction_touches phase phase_touches phases phases_touches post fill write_back action_of after_action start_of slot_done machine_at records touches_of rows_of listing_of shape_line core_line regs_line held_line memory_line row_line open_row_line waits_line digits
+open_at_the_end = record { core_0 = refl; core_1 = refl; rows = refl; open_rows = refl; ages = refl; listing = refl }
 
 pub reader_behind_an_owner : ReaderBehindAnOwner
-unfolding instr_of instruction instructions instruction_touches phase phase_touches phases phases_touches post fill write_back action_of after_action start_of slot_done machine_at records touches_of rows_of
+unfolding instr_of instruction instructions instruction_touches phase phase_touches phases phases_touches post fill write_back action_of after_action start_of slot_done machine_at records touches_of rows_of listing_of shape_line core_line regs_line held_line memory_line row_line open_row_line waits_line digits
 reader_behind_an_owner = record { actions = refl; core_0 = refl; core_1 = refl; memory = refl; waits = refl; left = refl; left_none = refl }
 
 pub read_before_write : ReadBeforeWrite
-unfolding instr_of instruction instructions instruction_touches phase phase_touches phases phases_touches post fill write_back action_of after_action start_of slot_done machine_at records touches_of rows_of
-read_before_write = record { actions = refl; core_0 = refl; core_1 = refl; core_2 = refl; memory = refl; waits = refl; bound = refl }
+unfolding instr_of instruction instructions instruction_touches phase phase_touches phases phases_touches post fill write_back action_of after_action start_of slot_done machine_at records touches_of rows_of listing_of shape_line core_line regs_line held_line memory_line row_line open_row_line waits_line digits
+read_before_write = record { actions = refl; core_0 = refl; core_1 = refl; core_2 = refl; memory = refl; waits = refl; bound = refl; left_1 = refl; left_2 = refl }
 
 pub shared_holders_store : SharedHoldersStore
-unfolding instr_of instruction instructions instruction_touches phase phase_touches phases phases_touches post fill write_back action_of after_action start_of slot_done machine_at records touches_of rows_of
+unfolding instr_of instruction instructions instruction_touches phase phase_touches phases phases_touches post fill write_back action_of after_action start_of slot_done machine_at records touches_of rows_of listing_of shape_line core_line regs_line held_line memory_line row_line open_row_line waits_line digits
 shared_holders_store = record { actions = refl; rows = refl; waits = refl; memory = refl }
 
 pub modified_victim : ModifiedVictim
-unfolding instr_of instruction instructions instruction_touches phase phase_touches phases phases_touches post fill write_back action_of after_action start_of slot_done machine_at records touches_of rows_of
-modified_victim = record { actions = refl; core = refl; memory = refl; waits = refl }
+unfolding instr_of instruction instructions instruction_touches phase phase_touches phases phases_touches post fill write_back action_of after_action start_of slot_done machine_at records touches_of rows_of listing_of shape_line core_line regs_line held_line memory_line row_line open_row_line waits_line digits
+modified_victim = record { actions = refl; core = refl; memory = refl; waits = refl; left = refl }
 
 pub victim_already_demanded : VictimAlreadyDemanded
-unfolding instr_of instruction instructions instruction_touches phase phase_touches phases phases_touches post fill write_back action_of after_action start_of slot_done machine_at records touches_of rows_of
-victim_already_demanded = record { actions = refl; core_0 = refl; core_1 = refl; rows = refl; waits = refl }
+unfolding instr_of instruction instructions instruction_touches phase phase_touches phases phases_touches post fill write_back action_of after_action start_of slot_done machine_at records touches_of rows_of listing_of shape_line core_line regs_line held_line memory_line row_line open_row_line waits_line digits
+victim_already_demanded = record { actions = refl; core_0 = refl; core_1 = refl; rows = refl; waits = refl; left_0 = refl }
 
 pub least_recently_used : LeastRecentlyUsed
-unfolding instr_of instruction instructions instruction_touches phase phase_touches phases phases_touches post fill write_back action_of after_action start_of slot_done machine_at records touches_of rows_of
-least_recently_used = record { actions = refl; core = refl; dropped = refl; waits = refl }
+unfolding instr_of instruction instructions instruction_touches phase phase_touches phases phases_touches post fill write_back action_of after_action start_of slot_done machine_at records touches_of rows_of listing_of shape_line core_line regs_line held_line memory_line row_line open_row_line waits_line digits
+least_recently_used = record { actions = refl; core = refl; used_again = refl; line_1_gone = refl; waits = refl }
+
+pub reads_words : ReadsWords
+unfolding instr_of instruction instructions instruction_touches phase phase_touches phases phases_touches post fill write_back action_of after_action start_of slot_done machine_at records touches_of rows_of listing_of shape_line core_line regs_line held_line memory_line row_line open_row_line waits_line digits
+reads_words = record { add = refl; addi = refl; lw = refl; sw = refl; ecall = refl; zero_word = refl; one_word = refl }
 
 pub largest_bound : LargestBound
-unfolding instr_of instruction instructions instruction_touches phase phase_touches phases phases_touches post fill write_back action_of after_action start_of slot_done machine_at records touches_of rows_of
+unfolding instr_of instruction instructions instruction_touches phase phase_touches phases phases_touches post fill write_back action_of after_action start_of slot_done machine_at records touches_of rows_of listing_of shape_line core_line regs_line held_line memory_line row_line open_row_line waits_line digits
 largest_bound = record { bound = refl }

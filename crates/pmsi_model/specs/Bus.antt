@@ -59,7 +59,7 @@ abbrev pub name_of : Kind → Option Mode → Name
 name_of Read mode = GetS
 name_of Write mode = if is_shared mode then Upg else GetM
 
--- another core takes note of a post: a write takes its shared copy, and an owner has to write the line back
+-- another core snoops a post: a write invalidates its shared copy, and an owner's line is queued for write-back
 abbrev pub noted_post_in : Kind → ℕ → Option Mode → CoreState → CoreState
 noted_post_in kind line None k = k
 noted_post_in kind line (Some Shared) k = if is_write kind then record k { held = without line k.held } else k

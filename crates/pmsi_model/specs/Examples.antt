@@ -1,8 +1,14 @@
 -- Worked examples: small jobs, and what the definitions say of their runs. The instructions are given as words.
-use Rattle.std.specs.Prelude.{◌≡◌, ℕ, ◌+◌, List, [], ◌∷◌, replicate, map, true, false, ◌==◌, if◌then◌else◌, Option, Some, None}
+use Rattle.std.specs.Prelude.{negsuc, ◌++◌, codes, ◌≡◌, ℕ, ◌+◌, List, [], ◌∷◌, replicate, map, true, false, ◌==◌, if◌then◌else◌, Option, Some, None}
 use Rattle.pmsi_model.specs.declared.job.Geometry.{Geometry}
 use Rattle.pmsi_model.specs.declared.Action.TheVariants.{Idle, Post, Fill, PostFill, Back}
 use Rattle.pmsi_model.specs.declared.Halt.TheVariants.{Exit}
+use Rattle.pmsi_model.specs.declared.instr.Instr.TheVariants.{Op, OpImm, Load, Store, Ecall}
+use Rattle.pmsi_model.specs.declared.instr.ImmOp.TheVariants.{Addi}
+use Rattle.pmsi_model.specs.declared.instr.LoadOp.TheVariants.{Lw}
+use Rattle.pmsi_model.specs.declared.instr.RegOp.TheVariants.{Add}
+use Rattle.pmsi_model.specs.declared.instr.StoreOp.TheVariants.{Sw}
+use Rattle.pmsi_model.specs.Instruction.{instr_of}
 use Rattle.pmsi_model.specs.declared.Kind.{Kind}
 use Rattle.pmsi_model.specs.declared.Kind.TheVariants.{Read, Write}
 use Rattle.pmsi_model.specs.declared.Mode.{Mode}
@@ -18,6 +24,7 @@ use Rattle.pmsi_model.specs.Machine.{CoreState}
 use Rattle.pmsi_model.specs.Run.{machine_at, records, touches_of}
 use Rattle.pmsi_model.specs.Rows.{rows_of, open_rows_of, wait_of, age_of}
 use Rattle.pmsi_model.specs.Waiting.{slots_left}
+use Rattle.pmsi_model.specs.Listing.{listing_of}
 
 -- ---- instructions
 
@@ -118,6 +125,15 @@ pub record AddsAndExits : Type 0 where
   pub rows : rows_of adds_and_exits 4 ≡ []
   pub open_rows : open_rows_of adds_and_exits 4 ≡ []
   pub bound : bound_of (plan_of adds_and_exits) ≡ 8
+  pub listing : listing_of adds_and_exits ≡
+      codes "pmsi listing 1\n"
+      ++ codes "cores 1 quantum 1 line 4 sets 1 ways 1 memory 64 slots 4\n"
+      ++ codes "core 0 pc 0x00000004 retired 1 exit 0\n"
+      ++ codes "regs x5=0x00000007 x11=0x00000001\n"
+      ++ codes "held\n"
+      ++ codes "waits 0 count 0 greatest 0 sum 0\n"
+      ++ codes "bound 8\n"
+      ++ codes "end\n"
 
 -- ---- the same job before its first slot
 
@@ -129,6 +145,24 @@ pub record TakesNoSlot : Type 0 where
   pub memory : memory_at_end takes_no_slot ≡ []
   pub rows : rows_of takes_no_slot 0 ≡ []
   pub open_rows : open_rows_of takes_no_slot 0 ≡ []
+
+-- ---- one core adds, stores, loads what it stored, and exits
+
+abbrev pub stores_and_loads : JobValue
+stores_and_loads = job_of (small 1 1 4) ((addi_x5_7 ∷ sw_x5_0 ∷ lw_x6_0 ∷ ecall ∷ []) ∷ [])
+
+pub record StoresAndLoads : Type 0 where
+  pub listing : listing_of stores_and_loads ≡
+      codes "pmsi listing 1\n"
+      ++ codes "cores 1 quantum 1 line 4 sets 1 ways 1 memory 64 slots 4\n"
+      ++ codes "core 0 pc 0x0000000c retired 3 exit 0\n"
+      ++ codes "regs x5=0x00000007 x6=0x00000007 x11=0x00000001\n"
+      ++ codes "held 0:M\n"
+      ++ codes "mem 0x00000000 07000000000000000000000000000000\n"
+      ++ codes "row core 0 line 0 write issue 1 post 1 fill 1 wait 1\n"
+      ++ codes "waits 0 count 1 greatest 1 sum 1\n"
+      ++ codes "bound 8\n"
+      ++ codes "end\n"
 
 -- ---- two cores write one word; the first owner halts, and still writes the line back
 
@@ -148,6 +182,22 @@ pub record TwoWriters : Type 0 where
   pub left_0 : map (λ slot. left_at two_writers slot 0) (2 ∷ 3 ∷ 4 ∷ []) ≡ Some 25 ∷ Some 5 ∷ Some 3 ∷ []
   pub left_1 : map (λ slot. left_at two_writers slot 1) (2 ∷ 3 ∷ 4 ∷ []) ≡ None ∷ None ∷ None ∷ []
   pub bound : bound_of (plan_of two_writers) ≡ 36
+  pub listing : listing_of two_writers ≡
+      codes "pmsi listing 1\n"
+      ++ codes "cores 2 quantum 1 line 4 sets 1 ways 1 memory 64 slots 6\n"
+      ++ codes "core 0 pc 0x00000008 retired 2 exit 0\n"
+      ++ codes "regs x5=0x00000007 x11=0x00000002\n"
+      ++ codes "held 0:M\n"
+      ++ codes "core 1 pc 0x00000008 retired 2 exit 1\n"
+      ++ codes "regs x5=0x00000007 x10=0x00000001 x11=0x00000002\n"
+      ++ codes "held\n"
+      ++ codes "mem 0x00000000 07000000000000000000000000000000\n"
+      ++ codes "row core 1 line 0 write issue 1 post 1 fill 1 wait 1\n"
+      ++ codes "row core 0 line 0 write issue 1 post 2 fill 4 wait 4\n"
+      ++ codes "waits 0 count 1 greatest 4 sum 4\n"
+      ++ codes "waits 1 count 1 greatest 1 sum 1\n"
+      ++ codes "bound 36\n"
+      ++ codes "end\n"
 
 -- ---- the same job, cut off while a request is open
 
@@ -160,6 +210,22 @@ pub record OpenAtTheEnd : Type 0 where
   pub rows : rows_of open_at_the_end 4 ≡ row 1 0 Write 1 1 1 ∷ []
   pub open_rows : open_rows_of open_at_the_end 4 ≡ record { core = 0; line = 0; kind = Write; issue = 1; post = Some 2 } ∷ []
   pub ages : map (age_of 4) (open_rows_of open_at_the_end 4) ≡ 3 ∷ []
+  pub listing : listing_of open_at_the_end ≡
+      codes "pmsi listing 1\n"
+      ++ codes "cores 2 quantum 1 line 4 sets 1 ways 1 memory 64 slots 4\n"
+      ++ codes "core 0 pc 0x00000004 retired 1 running\n"
+      ++ codes "regs x5=0x00000007 x11=0x00000002\n"
+      ++ codes "held\n"
+      ++ codes "core 1 pc 0x00000008 retired 2 exit 1\n"
+      ++ codes "regs x5=0x00000007 x10=0x00000001 x11=0x00000002\n"
+      ++ codes "held\n"
+      ++ codes "mem 0x00000000 07000000000000000000000000000000\n"
+      ++ codes "row core 1 line 0 write issue 1 post 1 fill 1 wait 1\n"
+      ++ codes "open core 0 line 0 write issue 1 post 2 age 3\n"
+      ++ codes "waits 0 count 0 greatest 0 sum 0\n"
+      ++ codes "waits 1 count 1 greatest 1 sum 1\n"
+      ++ codes "bound 36\n"
+      ++ codes "end\n"
 
 -- ---- a reader behind an owner: both keep the line
 
@@ -188,6 +254,8 @@ pub record ReadBeforeWrite : Type 0 where
   pub memory : memory_at_end read_before_write ≡ (0, 2) ∷ []
   pub waits : map wait_of (rows_of read_before_write 7) ≡ 1 ∷ 5 ∷ 6 ∷ []
   pub bound : bound_of (plan_of read_before_write) ≡ 96
+  pub left_1 : map (λ slot. left_at read_before_write slot 1) (1 ∷ 2 ∷ 3 ∷ 4 ∷ []) ≡ Some 73 ∷ Some 8 ∷ Some 7 ∷ Some 4 ∷ []
+  pub left_2 : map (λ slot. left_at read_before_write slot 2) (1 ∷ 2 ∷ 3 ∷ 4 ∷ 5 ∷ []) ≡ Some 74 ∷ Some 73 ∷ Some 31 ∷ Some 28 ∷ Some 4 ∷ []
 
 -- ---- two holders of a shared line store: the first upgrades, the other has lost its copy by then
 
@@ -210,6 +278,7 @@ pub record ModifiedVictim : Type 0 where
   pub core : core_at_end modified_victim 0 ≡ core_end 8 2 (exited 0) ((11, 1) ∷ []) ((1, Modified) ∷ [])
   pub memory : memory_at_end modified_victim ≡ (0, 1) ∷ (16, 1) ∷ []
   pub waits : map wait_of (rows_of modified_victim 4) ≡ 1 ∷ 2 ∷ []
+  pub left : left_at modified_victim 2 0 ≡ Some 5
 
 -- ---- a victim that another core had asked for already is written back once
 
@@ -222,6 +291,7 @@ pub record VictimAlreadyDemanded : Type 0 where
   pub core_1 : core_at_end victim_already_demanded 1 ≡ core_end 4 1 (exited 1) ((6, 2) ∷ (10, 1) ∷ (11, 2) ∷ []) ((0, Shared) ∷ [])
   pub rows : rows_of victim_already_demanded 6 ≡ row 0 0 Write 0 0 0 ∷ row 1 0 Read 0 1 3 ∷ row 0 1 Write 2 4 4 ∷ []
   pub waits : map wait_of (rows_of victim_already_demanded 6) ≡ 1 ∷ 4 ∷ 3 ∷ []
+  pub left_0 : map (λ slot. left_at victim_already_demanded slot 0) (3 ∷ 4 ∷ []) ≡ Some 26 ∷ Some 25 ∷ []
 
 -- ---- the least recently used line is the victim, and not the one that came first
 
@@ -231,8 +301,20 @@ least_recently_used = job_of (small 1 2 5) ((lw_x5_0 ∷ lw_x6_16 ∷ lw_x7_0 �
 pub record LeastRecentlyUsed : Type 0 where
   pub actions : records least_recently_used 5 ≡ PostFill GetS 0 ∷ PostFill GetS 1 ∷ Idle ∷ PostFill GetS 2 ∷ Idle ∷ []
   pub core : core_at_end least_recently_used 0 ≡ core_end 16 4 (exited 0) ((11, 1) ∷ []) ((2, Shared) ∷ (0, Shared) ∷ [])
-  pub dropped : ((machine_at least_recently_used 3).cores 0).held ≡ (0, Shared) ∷ (1, Shared) ∷ []
+  pub used_again : ((machine_at least_recently_used 3).cores 0).held ≡ (0, Shared) ∷ (1, Shared) ∷ []
+  pub line_1_gone : ((machine_at least_recently_used 4).cores 0).held ≡ (2, Shared) ∷ (0, Shared) ∷ []
   pub waits : map wait_of (rows_of least_recently_used 5) ≡ 1 ∷ 1 ∷ 1 ∷ []
+
+-- ---- words and their instructions
+
+pub record ReadsWords : Type 0 where
+  pub add : instr_of 0x006283b3 ≡ Some (Op Add 7 5 6)
+  pub addi : instr_of 0xfff28293 ≡ Some (OpImm Addi 5 5 (negsuc 0))
+  pub lw : instr_of 0xffc32283 ≡ Some (Load Lw 5 6 (negsuc 3))
+  pub sw : instr_of 0xfe532e23 ≡ Some (Store Sw 6 5 (negsuc 3))
+  pub ecall : instr_of 0x00000073 ≡ Some Ecall
+  pub zero_word : instr_of 0x00000000 ≡ None
+  pub one_word : instr_of 0xffffffff ≡ None
 
 -- ---- the bound of the largest machine
 

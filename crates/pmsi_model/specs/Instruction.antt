@@ -1,6 +1,6 @@
 -- The instruction table: which instruction a word stands for. The names of fields, formats and instructions are those of
--- the RISC-V Unprivileged ISA, whose sections are given.
-use Rattle.std.specs.Prelude.{◌≡◌, ℕ, ◌+◌, ◌*◌, ◌^◌, ℤ, List, [], ◌∷◌, Bool, true, ◌==◌, ◌&&◌, ◌⊎◌, Option, Some, None, if◌then◌else◌}
+-- the RISC-V Unprivileged ISA, version 20191213, whose sections are given.
+use Rattle.std.specs.Prelude.{◌≡◌, ℕ, ◌+◌, ◌*◌, ◌^◌, ◌<◌, ◌↔◌, ℤ, List, [], ◌∷◌, Bool, true, ◌==◌, ◌&&◌, ◌⊎◌, Option, Some, None, if◌then◌else◌}
 use Rattle.pmsi_model.specs.declared.instr.Instr.{Instr}
 use Rattle.pmsi_model.specs.declared.instr.Instr.TheVariants.{Load, Store, OpImm, Op, Ecall}
 use Rattle.pmsi_model.specs.declared.instr.LoadOp.TheVariants.{Lw}
@@ -24,8 +24,14 @@ funct3 value = record { low = 12; count = 3; value = value }
 abbrev pub funct7 : ℕ → Field
 funct7 value = record { low = 25; count = 7; value = value }
 
-abbrev pub whole_word : ℕ → Field
-whole_word value = record { low = 0; count = 32; value = value }
+abbrev pub funct12 : ℕ → Field
+funct12 value = record { low = 20; count = 12; value = value }
+
+abbrev pub fixed_rd : ℕ → Field
+fixed_rd value = record { low = 7; count = 5; value = value }
+
+abbrev pub fixed_rs1 : ℕ → Field
+fixed_rs1 value = record { low = 15; count = 5; value = value }
 
 abbrev pub has_fields : List Field → ℕ → Bool
 has_fields [] word = true
@@ -42,25 +48,25 @@ abbrev pub rs2 : ℕ → ℕ
 rs2 word = bits_at 20 5 word
 
 -- a run of an immediate's bits: `count` bits of the word, from place `low` on, stand in the immediate from place `at` on
-pub record Run : Type 0 where
+pub record BitRun : Type 0 where
   pub low : ℕ
   pub count : ℕ
   pub at : ℕ
 
-abbrev pub run : ℕ → ℕ → ℕ → Run
-run low count at = record { low = low; count = count; at = at }
+abbrev pub bit_run : ℕ → ℕ → ℕ → BitRun
+bit_run low count at = record { low = low; count = count; at = at }
 
 -- the number that runs of bits spell
-abbrev pub spelt : List Run → ℕ → ℕ
+abbrev pub spelt : List BitRun → ℕ → ℕ
 spelt [] word = 0
 spelt (r ∷ rs) word = 2 ^ r.at * bits_at r.low r.count word + spelt rs word
 
 -- the immediates of the formats I and S, sign-extended (section 2.3)
 abbrev pub imm_i : ℕ → ℤ
-imm_i word = signed 12 (spelt (run 20 12 0 ∷ []) word)
+imm_i word = signed 12 (spelt (bit_run 20 12 0 ∷ []) word)
 
 abbrev pub imm_s : ℕ → ℤ
-imm_s word = signed 12 (spelt (run 25 7 5 ∷ run 7 5 0 ∷ []) word)
+imm_s word = signed 12 (spelt (bit_run 25 7 5 ∷ bit_run 7 5 0 ∷ []) word)
 
 -- a row of the table: the fixed fields of the words, and the instruction that such a word stands for
 pub record Encoding : Type 0 where
@@ -76,7 +82,7 @@ instruction_rows =
     ∷ record { fixed = opcode 0b0000011 ∷ funct3 0b010 ∷ []; reads = λ w. Load Lw (rd w) (rs1 w) (imm_i w) }
     ∷ record { fixed = opcode 0b0100011 ∷ funct3 0b010 ∷ []; reads = λ w. Store Sw (rs1 w) (rs2 w) (imm_s w) }
     -- environment call and breakpoints (section 2.8)
-    ∷ record { fixed = whole_word 0x00000073 ∷ []; reads = λ w. Ecall }
+    ∷ record { fixed = opcode 0b1110011 ∷ fixed_rd 0 ∷ funct3 0b000 ∷ fixed_rs1 0 ∷ funct12 0 ∷ []; reads = λ w. Ecall }
     ∷ []
 
 -- a row of the table reads the word as the instruction
@@ -84,9 +90,9 @@ abbrev pub IsReadBy : List Encoding → ℕ → Instr → Type 0
 IsReadBy [] word instr = ⊥
 IsReadBy (row ∷ rows) word instr = ((has_fields row.fixed word ≡ true) × (row.reads word ≡ instr)) ⊎ IsReadBy rows word instr
 
--- the word encodes the instruction
+-- a word encodes the instruction
 abbrev pub IsEncodingOf : ℕ → Instr → Type 0
-IsEncodingOf word instr = IsReadBy instruction_rows word instr
+IsEncodingOf word instr = (word < 2 ^ 32) × IsReadBy instruction_rows word instr
 
 -- the instruction by the first row that fits
 abbrev pub read_by : List Encoding → ℕ → Option Instr
@@ -96,3 +102,7 @@ read_by (row ∷ rows) word = if has_fields row.fixed word then Some (row.reads 
 -- the instruction of a word, if it has a row
 unfoldable pub instr_of : ℕ → Option Instr
 instr_of word = read_by instruction_rows word
+
+-- the two readings agree, so a word encodes one instruction at most
+abbrev pub ReadsOneWay : Type 0
+ReadsOneWay = (word : ℕ) (instr : Instr) → word < 2 ^ 32 → IsEncodingOf word instr ↔ (instr_of word ≡ Some instr)

@@ -15,3 +15,5 @@ pub mod Coherent
 pub mod Waiting
 pub mod Latest
 pub mod Examples
+pub mod Lines
+pub mod Listing

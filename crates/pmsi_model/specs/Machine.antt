@@ -1,6 +1,6 @@
 -- The state of the written machine: one flat memory, the posted requests in order, and per core what it holds and wants.
 -- There are no copies of data in it, no ages, and no states of lines that are on their way.
-use Rattle.std.specs.Prelude.{ℕ, zero, suc, ◌+◌, List, [], ◌∷◌, ◌++◌, map, Bool, true, false, not, ◌==◌, ◌&&◌, ◌||◌, Option, Some, None, if◌then◌else◌}
+use Rattle.std.specs.Prelude.{◌≡◌, ℕ, zero, suc, ◌+◌, List, [], ◌∷◌, ◌++◌, map, Bool, true, false, not, ◌==◌, ◌&&◌, ◌||◌, Option, Some, None, if◌then◌else◌}
 use Rattle.std.specs.List.{filter, list_any}
 use Rattle.pmsi_model.specs.declared.Kind.{Kind}
 use Rattle.pmsi_model.specs.declared.Kind.TheVariants.{Read, Write}
@@ -16,8 +16,8 @@ pub record Request : Type 0 where
   pub line : ℕ
   pub kind : Kind
 
--- what the machine has of a core. `held` has the lines that it holds, most recently used first; `want` the access that
--- waits; `write_backs` the modified lines that it has to write back, in order; `turn` what it does first in its next slot
+-- what the machine has of a core. `held` has the lines that it holds, most recently used first; `want` is its outstanding
+-- miss; `write_backs` is its write-back queue; `turn` says what it does first in its next own slot, where both are possible
 pub record CoreState : Type 0 where
   pub regs : List ℕ
   pub pc : ℕ
@@ -115,6 +115,31 @@ request_of c (r ∷ rs) = if r.core == c then Some r else request_of c rs
 -- the requests of the other cores
 abbrev pub removed : ℕ → List Request → List Request
 removed c posted = filter (λ r. not (r.core == c)) posted
+
+-- the readers of a line's queue, by its filtered list: its first core, whether it has a request, whether it has a write
+abbrev pub has_any : List Request → Bool
+has_any [] = false
+has_any (r ∷ rs) = true
+
+abbrev pub first_core : List Request → Option ℕ
+first_core [] = None
+first_core (r ∷ rs) = Some r.core
+
+abbrev pub QueueIsRead : Type 0
+QueueIsRead = (line : ℕ) (posted : List Request) →
+    (first_of line posted ≡ first_core (queue_of line posted))
+    × (has_request line posted ≡ has_any (queue_of line posted))
+    × (has_write line posted ≡ list_any (λ r. is_write r.kind) (queue_of line posted))
+
+-- how many requests stand before the core's in a queue
+abbrev pub before : ℕ → List Request → ℕ
+before c [] = 0
+before c (r ∷ rs) = if r.core == c then 0 else 1 + before c rs
+
+-- ahead is the place in the queue, for a core whose request is in it
+abbrev pub PlaceIsRead : Type 0
+PlaceIsRead = (c line : ℕ) (posted : List Request) (r : Request) → request_of c posted ≡ Some r → r.line ≡ line →
+    ahead c line posted ≡ before c (queue_of line posted)
 
 -- ---- owners
 

@@ -1,4 +1,5 @@
--- Whose slot it is. A plan says which core owns a slot: it is the number of cores, which own the slots in turn.
+-- Whose slot it is, by time division: the plan of a job gives the number of cores, and these own the slots in turn. A bus
+-- period is as many slots.
 use Rattle.std.specs.Prelude.{ℕ, ◌+◌, ◌-◌, ◌*◌, ◌%◌, ◌^◌, if◌then◌else◌, nat_le}
 use Rattle.pmsi_model.specs.Job.{JobValue}
 
@@ -23,6 +24,6 @@ distance plan core slot =
     then (core - owner_of_slot plan slot) + 1
     else ((core + plan.cores) - owner_of_slot plan slot) + 1
 
--- the bound on a wait, in slots, that of the miss and that of the fill counted
+-- the bound on the latency of a request in slots, that of the miss and that of the fill counted
 abbrev pub bound_of : SlotPlan → ℕ
 bound_of plan = 2 * gap_of plan * (plan.cores + 1) ^ 2

@@ -1,4 +1,4 @@
--- How long a request can wait: the slots that are left for it at a boundary, and the bound.
+-- How long a request can wait: the slots that are left for it at a boundary at most, and the bound on its latency.
 use Rattle.std.specs.Prelude.{◌≡◌, ℕ, ◌+◌, ◌-◌, ◌*◌, ◌<◌, ◌≤◌, ◌==◌, List, [], ◌∷◌, Option, Some, None, is_some, if◌then◌else◌}
 use Rattle.std.specs.Option.{option_map, unwrap_or}
 use Rattle.pmsi_model.specs.declared.Turn.{Turn}
@@ -23,29 +23,29 @@ abbrev pub request_delay : Turn → ℕ
 request_delay RequestTurn = 0
 request_delay WriteBackTurn = 1
 
--- the slots until core o writes back the line at this place of its lines
+-- the slots at most until core o writes back the line at this place of its lines
 abbrev pub back_slots : SlotPlan → Machine → ℕ → ℕ → ℕ
 back_slots plan x o place = distance plan o x.slot + gap_of plan * (2 * place + back_delay (x.cores o).turn)
 
--- the slots until core c does its request, where that is possible
+-- the slots at most until core c does its request, where that is possible
 abbrev pub request_slots : SlotPlan → Machine → ℕ → ℕ
 request_slots plan x c = distance plan c x.slot + gap_of plan * request_delay (x.cores c).turn
 
--- the slots for each request that is ahead in the queue
+-- the slots at most for each request that is ahead in the queue
 abbrev pub queue_slots : SlotPlan → ℕ
 queue_slots plan = 2 * gap_of plan * plan.cores + 2 * gap_of plan
 
--- the slots until a posted request of c is served: the owner of the line writes it back first, then the queue is served
+-- the slots at most until a posted request of c is served: the owner of the line writes it back first, then the queue is served
 abbrev pub posted_left : SlotPlan → Machine → ℕ → ℕ → Option ℕ → ℕ
 posted_left plan x c line (Some o) = back_slots plan x o (place_of line (x.cores o).write_backs) + 2 * gap_of plan + ahead c line x.posted * queue_slots plan
 posted_left plan x c line None = request_slots plan x (unwrap_or (first_of line x.posted) c) + ahead c line x.posted * queue_slots plan
 
--- the slots until a request of c that isn't posted is served: the victim is written back first
+-- the slots at most until a request of c that isn't posted is served: the victim is written back first
 abbrev pub unposted_left : SlotPlan → Machine → ℕ → Option ℕ → ℕ
 unposted_left plan x c None = request_slots plan x c + plan.cores * queue_slots plan
 unposted_left plan x c (Some victim) = back_slots plan x c (place_of victim (x.cores c).write_backs) + 2 * gap_of plan + plan.cores * queue_slots plan
 
--- the slots that are left for a want of core c
+-- the slots at most that are left for a want of core c
 abbrev pub left_for : SlotPlan → Machine → ℕ → Want → ℕ
 left_for plan x c want =
     if is_some want.post then posted_left plan x c want.line (owner_of x plan.cores want.line) else unposted_left plan x c want.victim

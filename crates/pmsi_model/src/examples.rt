@@ -1,7 +1,7 @@
 //! Worked examples: each function has an empty body, and its contract says what the definitions give for a small job.
 //! The jobs and the values stand in `specs/Examples.antt`; the checker computes them.
 
-ghost use Rattle.pmsi_model.specs.Examples.{AddsAndExits, TakesNoSlot, TwoWriters, OpenAtTheEnd, ReaderBehindAnOwner, ReadBeforeWrite, SharedHoldersStore, ModifiedVictim, VictimAlreadyDemanded, LeastRecentlyUsed, LargestBound};
+ghost use Rattle.pmsi_model.specs.Examples.{AddsAndExits, TakesNoSlot, StoresAndLoads, TwoWriters, OpenAtTheEnd, ReaderBehindAnOwner, ReadBeforeWrite, SharedHoldersStore, ModifiedVictim, VictimAlreadyDemanded, LeastRecentlyUsed, ReadsWords, LargestBound};
 
 /// One core adds, and exits by an environment call.
 pub fn adds_and_exits()
@@ -11,6 +11,11 @@ pub fn adds_and_exits()
 /// The same job with no slot is the machine at its start.
 pub fn takes_no_slot()
     ensures { TakesNoSlot }
+{}
+
+/// One core adds, stores, loads what it stored, and exits.
+pub fn stores_and_loads()
+    ensures { StoresAndLoads }
 {}
 
 /// Two cores write one word; the first owner halts, and still writes the line back.
@@ -51,6 +56,11 @@ pub fn victim_already_demanded()
 /// The victim is the least recently used line of the set.
 pub fn least_recently_used()
     ensures { LeastRecentlyUsed }
+{}
+
+/// Words of the instruction table, and words that have no row.
+pub fn reads_words()
+    ensures { ReadsWords }
 {}
 
 /// The bound for sixteen cores.

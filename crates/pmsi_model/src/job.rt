@@ -1,5 +1,5 @@
 //! What a job gives: the shape of the machine, the text of each core, and the bytes that memory starts with.
-ghost use Rattle.std.specs.Prelude.{◌≡◌, ◌*◌, ◌/◌, ◌%◌, ◌<◌, ◌↔◌, IsTrue, length, slice_index_or};
+ghost use Rattle.std.specs.Prelude.{◌≡◌, ◌*◌, ◌/◌, ◌%◌, ◌<◌, ◌↔◌, IsTrue};
 
 use crate::limits;
 use crate::lists::{Bytes, WordLists, Words};
@@ -87,7 +87,7 @@ impl Model for Job {
 }
 
 impl Job {
-    ghost use Rattle.pmsi_model.specs.Job.{IsJob};
+    ghost use Rattle.pmsi_model.specs.Job.{IsJob, text_of};
 
     pub fn new(shape: Geometry, texts: WordLists, start: Bytes) -> Job
         requires { IsJob (record { shape = shape; texts = texts; start = start }) }
@@ -110,7 +110,7 @@ impl Job {
     /// The text of a core, in words.
     pub fn text(&self, core: u32) -> &Words
         requires { core < self.now.shape.cores }
-        ensures { result.now ≡ slice_index_or self.now.texts core result.now }
+        ensures { result.now ≡ text_of self.now core }
     {
         &self.texts.as_slice()[core as usize]
     }

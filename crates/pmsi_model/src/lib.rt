@@ -9,13 +9,14 @@ pub mod examples;
 mod image;
 mod instr;
 mod job;
+pub mod laws;
 pub mod limits;
 mod lists;
 
 pub use image::{Image, Piece};
 pub use instr::{AmoOp, BranchOp, ImmOp, Instr, LoadOp, Reg, RegOp, StoreOp};
 pub use job::{Geometry, Job};
-pub use lists::{Bytes, Pieces, Text, WordLists, Words};
+pub use lists::{Bytes, Pieces, Utf8Text, WordLists, Words};
 use std::alloc::AllocError;
 
 /// What a request asks for: a copy to read, or the only copy, to write. An AMO is a write.
@@ -74,9 +75,9 @@ pub enum Halt {
     FetchRange(u32),
     /// A jump or taken branch to an address that isn't a multiple of four.
     JumpMisaligned(u32),
-    /// A load or store at an address that isn't a multiple of its width.
+    /// An access at an address that isn't a multiple of its width.
     Misaligned(u32),
-    /// A load or store at an address that isn't below the memory size.
+    /// An access at an address that isn't below the memory size.
     Range(u32),
 }
 
@@ -124,7 +125,7 @@ pub struct Access {
     pub operand: u32,
 }
 
-/// An access that waits for its line, from the slot of the miss on.
+/// An outstanding miss: an access that waits for its line, from the slot of the miss on.
 #[derive(Clone, Copy, Debug, PartialEq, Eq)]
 pub struct Want {
     pub line: u32,
@@ -171,20 +172,33 @@ pub struct Touch {
     pub new: u32,
 }
 
-/// The state of a line in a core: the three stable ones of MSI, and those of a request or a write-back on its way.
+/// The state of a line in a core: the three stable ones of MSI, and the transient ones of a request or a write-back on
+/// its way.
 #[derive(Clone, Copy, Debug, PartialEq, Eq)]
 pub enum State {
+    /// Invalid: not held, and no request is posted.
     I,
+    /// Shared, and no request is posted.
     S,
+    /// Modified, and not to be written back.
     M,
+    /// A read is posted, with no write behind it in the line's queue.
     ISD,
+    /// A read is posted, with a write behind it.
     ISDI,
+    /// A write is posted for a line that isn't held, with nothing behind it.
     IMD,
+    /// The same, with reads alone behind it.
     IMDS,
+    /// A write is posted, with a write behind it.
     IMDI,
+    /// A write is posted for a line that is held shared, with nothing behind it.
     SMW,
+    /// The same, with reads alone behind it.
     SMWS,
+    /// Modified and to be written back, after which it would stay shared as things stand.
     MSWB,
+    /// Modified and to be written back, after which it would be dropped as things stand.
     MIWB,
 }
 

@@ -57,11 +57,11 @@ pub type Pieces = Sequence<Piece>;
 
 /// A text in UTF-8, seen as its bytes.
 #[derive(Debug, Drop)]
-pub struct Text {
+pub struct Utf8Text {
     text: String,
 }
 
-impl Model for Text {
+impl Model for Utf8Text {
     ghost use Rattle.std.specs.Prelude.{ℕ, List};
     ghost use Rattle.std.specs.Prelude.{string_bytes};
 
@@ -70,17 +70,17 @@ impl Model for Text {
     ghost view = { λ a. string_bytes a.text };
 }
 
-impl Text {
-    pub fn from_string(text: String) -> Text
+impl Utf8Text {
+    pub fn from_string(text: String) -> Utf8Text
         ensures { result ≡ string_bytes text }
     {
-        Text { text }
+        Utf8Text { text }
     }
 
     pub fn into_string(self) -> String
         ensures { string_bytes result ≡ self }
     {
-        let Text { text } = self;
+        let Utf8Text { text } = self;
         text
     }
 
