@@ -1,3 +1,4 @@
+pub mod Bytes
 pub mod Queues
 pub mod Encodings
 pub mod Worked
