@@ -1,13 +1,13 @@
 -- When a fault may be answered, and whose it is.
-use Rattle.std.specs.Prelude.{◌≡◌, ℕ, ◌+◌, ◌-◌, ◌^◌, ◌≤◌, ◌<◌, min, List, Option, Result, OnOk, OnErr}
-
--- a 64-bit count after one more fault or call; at the end of its type it stands still
-abbrev pub counted : ℕ → ℕ
-counted count = min (count + 1) (2 ^ 64 - 1)
+use Rattle.std.specs.Prelude.{◌≡◌, ℕ, ◌+◌, ◌-◌, ◌^◌, ◌≤◌, ◌<◌, min, max, List, Option, Result, IsOk, OnOk, OnErr}
 
 -- a count has become greater, or stands at the end of its type
 abbrev pub Rose : ℕ → ℕ → Type 0
-Rose before now = counted before ≤ now
+Rose before now = min (before + 1) (2 ^ 64 - 1) ≤ now
+
+-- a 64-bit count after one more; at the end of its type it stands still
+abbrev pub counted : ℕ → ℕ
+counted count = max count (min (count + 1) (2 ^ 64 - 1))
 
 -- the count never falls, and a failed call raised it
 pub record HasCause {T E : Type 0} (before now : ℕ) (result : Result T E) : Type 0 where
@@ -19,3 +19,8 @@ pub record Blames {T E : Type 0} (before now : ℕ) (result : Result T E) (name 
   pub failed : OnErr result (blamed_now ≡ name)
   pub risen : before < now → blamed_now ≡ name
   pub kept : OnOk result (now ≡ before → blamed_now ≡ blamed_before)
+
+-- a call succeeded, and counted no fault
+pub record Succeeds {T E : Type 0} (before now : ℕ) (result : Result T E) : Type 0 where
+  pub ok : IsOk result
+  pub still : now ≡ before

@@ -1,5 +1,5 @@
 -- What the calls of a set of files give, where its contents are told.
-use Rattle.std.specs.Prelude.{◌≡◌, ℕ, ◌++◌, List, take, drop, Option, None, Some, Result, IfOk, IsSomeAnd, ⊤}
+use Rattle.std.specs.Prelude.{◌≡◌, ℕ, ◌++◌, List, take, drop, Option, None, Some, Result, IfOk, IsSome, IsSomeAnd, ⊤}
 use Rattle.std.specs.Io.KnownBytes.{Consumes, IsAtEnd}
 
 -- the contents of each name that has some
@@ -10,6 +10,10 @@ Contents = List ℕ → Option (List ℕ)
 abbrev pub Tells : Option Contents → List ℕ → (List ℕ → Type 0) → Type 0
 Tells None name fact = ⊤
 Tells (Some contents) name fact = IsSomeAnd (contents name) fact
+
+-- contents are told, and this name has some
+abbrev pub Has : Option Contents → List ℕ → Type 0
+Has contents name = IsSomeAnd contents (λ told. IsSome (told name))
 
 -- an opened file has the whole contents of its name left
 abbrev pub Opens : Option Contents → List ℕ → Option (List ℕ) → Type 0

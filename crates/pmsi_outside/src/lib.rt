@@ -3,9 +3,11 @@
 #![tactic(auto)]
 
 mod files;
+mod memory;
 mod sink;
 mod whole;
 
 pub use files::{Failed, Files, Gate};
+pub use memory::{MemoryFiles, SteadyFiles};
 pub use sink::Sink;
 pub use whole::{ReadAll, read_whole, write_whole};

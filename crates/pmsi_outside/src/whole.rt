@@ -2,7 +2,7 @@
 ghost use Rattle.std.specs.Prelude.{◌≡◌, ◌≤◌, ◌<◌, ◌≢◌, Some, length, string_bytes, IfOk, OnOk, OnErr, IsErrOf};
 ghost use Rattle.std.specs.Io.KnownBytes.{Appends};
 ghost use Rattle.pmsi_outside.specs.Causes.{Rose, HasCause};
-ghost use Rattle.pmsi_outside.specs.Files.{Tells};
+ghost use Rattle.pmsi_outside.specs.Files.{Tells, Has};
 ghost use Rattle.pmsi_outside.specs.Sink.{AppendsPart};
 ghost use Rattle.pmsi_outside.specs.declared.whole.ReadAll.TheVariants.{NoMemory};
 
@@ -52,6 +52,9 @@ pub fn read_whole<F: Files>(alloc: Global, files: &mut F, name: String) -> Resul
     ensures later { F.faults files.old ≤ F.faults files.new }
     ensures blamed { F.faults files.old < F.faults files.new → F.blamed files.new ≡ Some (string_bytes name) }
     ensures not_blamed { result ≢ Err ReadAll.Failed → F.faults files.new ≡ F.faults files.old → F.blamed files.new ≡ F.blamed files.old }
+    ensures steady { F.steady files.old → Has (F.contents files.old) (string_bytes name) → F.faults files.new ≡ F.faults files.old }
+    ensures steady_ok { F.steady files.old → Has (F.contents files.old) (string_bytes name) → result ≢ Err ReadAll.Failed }
+    ensures stays { F.steady files.old → F.steady files.new }
     ensures contents { F.contents files.new ≡ F.contents files.old }
 {
     files.open(name)?;

@@ -13,6 +13,8 @@ loop-bytes-init g c = record {
   within = grind (arith, common_steps);
   room = grind (arith, common_steps);
   blaming = blaming_goes_on _ _ _ _ _ _ _ _ c.open.result (search rules) refl (blaming_begins _ _ _) c.open.ensures.cause c.open.ensures.blame;
+  stays = c.in_ok-open.ensures.stays;
+  still = λ steady has. (c.in_ok-open.ensures.steady steady has).still;
 }
 
 pub returns-then-count-eq0-clause-whole : goal.returns-then-count-eq0-clause-whole
@@ -43,9 +45,23 @@ loop-bytes-preserved g c =
       within = grind (arith, common_steps);
       room = grind (arith, common_steps);
       blaming = blaming_goes_on _ _ _ _ _ _ _ _ c.read.result (search rules) c.loop-bytes.invariant.opened c.loop-bytes.invariant.blaming c.read.ensures.cause c.read.ensures.blame;
+      stays = λ steady. c.in_ok-count.ensures.stays (c.loop-bytes.invariant.stays steady);
+      still = λ steady has. (c.in_ok-count.ensures.steady (c.loop-bytes.invariant.stays steady)).still ∙ c.loop-bytes.invariant.still steady has;
     }
 
 pub returns-in_err-extend_from_slice-clause-blamed :
     goal.returns-in_err-extend_from_slice-clause-blamed
 returns-in_err-extend_from_slice-clause-blamed g c =
     (blaming_goes_on _ _ _ _ _ _ _ _ c.read.result (search rules) c.loop-bytes.invariant.opened c.loop-bytes.invariant.blaming c.read.ensures.cause c.read.ensures.blame).risen
+
+pub returns-then-count-eq0-clause-steady : goal.returns-then-count-eq0-clause-steady
+returns-then-count-eq0-clause-steady g c = λ steady has.
+    (c.in_ok-count.ensures.steady (c.loop-bytes.invariant.stays steady)).still ∙ c.loop-bytes.invariant.still steady has
+
+pub returns-then-count-len-clause-steady : goal.returns-then-count-len-clause-steady
+returns-then-count-len-clause-steady g c = λ steady has.
+    (c.in_ok-count.ensures.steady (c.loop-bytes.invariant.stays steady)).still ∙ c.loop-bytes.invariant.still steady has
+
+pub returns-in_err-extend_from_slice-clause-steady : goal.returns-in_err-extend_from_slice-clause-steady
+returns-in_err-extend_from_slice-clause-steady g c = λ steady has.
+    (c.in_ok-count.ensures.steady (c.loop-bytes.invariant.stays steady)).still ∙ c.loop-bytes.invariant.still steady has

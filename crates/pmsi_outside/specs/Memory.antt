@@ -1,0 +1,82 @@
+-- Files and a sink in memory, as contracts see them.
+use Rattle.std.specs.Prelude.{◌≡◌, ℕ, ◌==◌, Bool, if◌then◌else◌, min, List, [], ◌∷◌, ◌++◌, length, take, drop, map, slice_index_or, Option, None, Some, String, Vec, string_bytes}
+use Rattle.std.specs.List.{list_any}
+use Rattle.std.specs.Option.{option_map}
+use Rattle.std.specs.Str.{bytes_eq}
+use Rattle.std.specs.declared.alloc.Global.{Global}
+use Rattle.pmsi_outside.specs.Causes.{counted}
+use Rattle.pmsi_outside.specs.Files.{Contents}
+
+-- names with their contents
+abbrev pub Entries : Type 0
+Entries = List (List ℕ × List ℕ)
+
+-- a list of files, by the bytes of their names
+abbrev pub entries_of : List (String Global × Vec ℕ Global) → Entries
+entries_of list = map (λ entry. (string_bytes entry.0, entry.1.items)) list
+
+-- the contents of the first entry of a name
+abbrev pub contents_of : Entries → Contents
+contents_of [] name = None
+contents_of (entry ∷ entries) name = if bytes_eq entry.0 name then Some entry.1 else contents_of entries name
+
+-- the contents of the entry at a place
+abbrev pub bytes_at : Entries → ℕ → List ℕ
+bytes_at entries place = (slice_index_or entries place ([], [])).1
+
+-- an open file: its name, and the bytes that it has left
+pub record Opened : Type 0 where
+  pub name : List ℕ
+  pub left : List ℕ
+
+-- files in memory, of which at most one is open
+pub record ShelfValue : Type 0 where
+  pub entries : Entries
+  pub file : Option Opened
+  pub blamed : Option (List ℕ)
+  pub faults : ℕ
+
+-- no call has been made
+abbrev pub new_shelf : Entries → ShelfValue
+new_shelf entries = record { entries = entries; file = None; blamed = None; faults = 0 }
+
+-- a file is open at these bytes
+abbrev pub opened : ShelfValue → List ℕ → List ℕ → ShelfValue
+opened shelf name left = record shelf { file = Some (record { name = name; left = left }) }
+
+-- a call of this name has failed
+abbrev pub failed : ShelfValue → List ℕ → ShelfValue
+failed shelf name = record shelf { file = None; blamed = Some name; faults = counted shelf.faults }
+
+-- the calls that have been made, and the numbers of those that fail
+pub record ScheduleValue : Type 0 where
+  pub fails : List ℕ
+  pub calls : ℕ
+
+-- whether the next call fails
+abbrev pub fails_next : ScheduleValue → Bool
+fails_next schedule = list_any (λ number. number == counted schedule.calls) schedule.fails
+
+-- one more call has been made
+abbrev pub after_call : ScheduleValue → ScheduleValue
+after_call schedule = record schedule { calls = counted schedule.calls }
+
+-- a read gives the next bytes of the open file: as many as may be given, as fit, and as are left
+pub record Gives (most : ℕ) (old new : ShelfValue) (buf_old buf_new : List ℕ) (given : ℕ) (file : Opened) : Type 0 where
+  pub count : given ≡ min (min most (length buf_old)) (length file.left)
+  pub bytes : buf_new ≡ take given file.left ++ drop given buf_old
+  pub after : new ≡ opened old file.name (drop given file.left)
+
+-- what the open file has left
+abbrev pub left_of : ShelfValue → Option (List ℕ)
+left_of shelf = option_map (λ file. file.left) shelf.file
+
+-- the name of the open file
+abbrev pub name_of : ShelfValue → Option (List ℕ)
+name_of shelf = option_map (λ file. file.name) shelf.file
+
+-- files that fail by a schedule, and give at most a step of bytes a read
+pub record MemoryFilesValue : Type 0 where
+  pub shelf : ShelfValue
+  pub schedule : ScheduleValue
+  pub step : ℕ
