@@ -80,3 +80,17 @@ pub record MemoryFilesValue : Type 0 where
   pub shelf : ShelfValue
   pub schedule : ScheduleValue
   pub step : ℕ
+
+-- the state after a failed call of this name
+abbrev pub after_failure : MemoryFilesValue → List ℕ → MemoryFilesValue
+after_failure files name = record files { shelf = failed files.shelf name; schedule = after_call files.schedule }
+
+-- the state after a call of `open`, where the name has these contents
+abbrev pub after_found : MemoryFilesValue → List ℕ → List ℕ → MemoryFilesValue
+after_found files name bytes = record files { shelf = opened files.shelf name bytes; schedule = after_call files.schedule }
+
+-- a read gives the next bytes of the open file, at most a step of them
+pub record GivesStep (old new : MemoryFilesValue) (buf_old buf_new : List ℕ) (given : ℕ) (file : Opened) : Type 0 where
+  pub shelf : Gives old.step old.shelf new.shelf buf_old buf_new given file
+  pub schedule : new.schedule ≡ after_call old.schedule
+  pub step : new.step ≡ old.step

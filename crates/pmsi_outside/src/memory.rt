@@ -2,7 +2,7 @@
 mod schedule;
 mod shelf;
 
-ghost use Rattle.std.specs.Prelude.{◌≡◌, ◌≤◌, ⊤, [], Some};
+ghost use Rattle.std.specs.Prelude.{◌≡◌, ◌≤◌, ⊤, Some};
 
 use crate::{Failed, Files};
 use schedule::Schedule;
@@ -46,7 +46,8 @@ impl MemoryFiles {
 }
 
 impl Files for MemoryFiles {
-    ghost use Rattle.pmsi_outside.specs.Memory.{contents_of, left_of, name_of};
+    ghost use Rattle.std.specs.Prelude.{◌≡◌, ◌↔◌, ◌≤◌, [], Some, false, IsOk, IfOk, OnOk, OnErr, IsSome, IfSome, IsSomeAnd, string_bytes};
+    ghost use Rattle.pmsi_outside.specs.Memory.{contents_of, left_of, name_of, fails_next, after_found, after_failure, GivesStep};
 
     ghost contents = { λ m. Some (contents_of m.shelf.entries) };
 
@@ -60,7 +61,11 @@ impl Files for MemoryFiles {
 
     ghost steady = { λ m. m.schedule.fails ≡ [] };
 
-    fn open(&mut self, name: String) -> Result<(), Failed> {
+    fn open(&mut self, name: String) -> Result<(), Failed>
+        ensures answer { IsOk result ↔ ((fails_next self.old.schedule ≡ false) × IsSome (contents_of self.old.shelf.entries (string_bytes name))) }
+        ensures failed { OnErr result (self.new ≡ after_failure self.old (string_bytes name)) }
+        ensures opened { OnOk result (IfSome (contents_of self.old.shelf.entries (string_bytes name)) (λ bytes. self.new ≡ after_found self.old (string_bytes name) bytes)) }
+    {
         if self.schedule.next() {
             self.shelf.fail(name);
             return Err(Failed);
@@ -68,7 +73,13 @@ impl Files for MemoryFiles {
         self.shelf.open(name)
     }
 
-    fn read(&mut self, buf: &mut [u8]) -> Result<usize, Failed> {
+    fn read(&mut self, buf: &mut [u8]) -> Result<usize, Failed>
+        requires { IsSome (name_of self.old.shelf) }
+        ensures answer { IsOk result ↔ (fails_next self.old.schedule ≡ false) }
+        ensures step { 1 ≤ self.old.step }
+        ensures failed { OnErr result (IsSomeAnd (name_of self.old.shelf) (λ name. self.new ≡ after_failure self.old name)) }
+        ensures given { IfOk result (λ count. IsSomeAnd self.old.shelf.file (GivesStep self.old self.new buf.old buf.new count)) }
+    {
         if self.schedule.next() {
             self.shelf.fail_open();
             return Err(Failed);
