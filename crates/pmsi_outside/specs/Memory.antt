@@ -1,5 +1,5 @@
 -- Files and a sink in memory, as contracts see them.
-use Rattle.std.specs.Prelude.{◌≡◌, ℕ, ◌==◌, Bool, if◌then◌else◌, min, List, [], ◌∷◌, ◌++◌, length, take, drop, map, slice_index_or, Option, None, Some, String, Vec, string_bytes}
+use Rattle.std.specs.Prelude.{◌≡◌, ℕ, ◌-◌, ◌==◌, Bool, if◌then◌else◌, min, List, [], ◌∷◌, ◌++◌, length, take, drop, map, slice_index_or, Option, None, Some, String, Vec, string_bytes}
 use Rattle.std.specs.List.{list_any}
 use Rattle.std.specs.Option.{option_map}
 use Rattle.std.specs.Str.{bytes_eq}
@@ -94,3 +94,20 @@ pub record GivesStep (old new : MemoryFilesValue) (buf_old buf_new : List ℕ) (
   pub shelf : Gives old.step old.shelf new.shelf buf_old buf_new given file
   pub schedule : new.schedule ≡ after_call old.schedule
   pub step : new.step ≡ old.step
+
+-- what a sink holds, how many bytes of room it has left, and how it fails
+pub record MemorySinkValue : Type 0 where
+  pub held : List ℕ
+  pub room : ℕ
+  pub step : ℕ
+  pub schedule : ScheduleValue
+  pub faults : ℕ
+
+-- the state after a failed call
+abbrev pub sink_failure : MemorySinkValue → MemorySinkValue
+sink_failure sink = record sink { schedule = after_call sink.schedule; faults = counted sink.faults }
+
+-- a write takes the front of the piece: as much as a step, and as there is room for
+pub record Takes (old new : MemorySinkValue) (piece : List ℕ) (taken : ℕ) : Type 0 where
+  pub count : taken ≡ min (min (length piece) old.step) old.room
+  pub after : new ≡ record old { held = old.held ++ take taken piece; room = old.room - taken; schedule = after_call old.schedule }

@@ -8,6 +8,6 @@ mod sink;
 mod whole;
 
 pub use files::{Failed, Files, Gate};
-pub use memory::{MemoryFiles, SteadyFiles};
+pub use memory::{MemoryFiles, MemorySink, NullSink, OpenGate, SteadyFiles};
 pub use sink::Sink;
 pub use whole::{ReadAll, read_whole, write_whole};

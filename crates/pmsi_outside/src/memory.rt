@@ -2,9 +2,9 @@
 mod schedule;
 mod shelf;
 
-ghost use Rattle.std.specs.Prelude.{◌≡◌, ◌≤◌, ⊤, Some};
+ghost use Rattle.std.specs.Prelude.{◌≡◌, ◌≤◌, None};
 
-use crate::{Failed, Files};
+use crate::{Failed, Files, Gate, Sink};
 use schedule::Schedule;
 use shelf::Shelf;
 use std::marker::Model;
@@ -116,7 +116,8 @@ impl SteadyFiles {
 }
 
 impl Files for SteadyFiles {
-    ghost use Rattle.pmsi_outside.specs.Memory.{contents_of, left_of, name_of};
+    ghost use Rattle.std.specs.Prelude.{◌≡◌, ◌↔◌, ⊤, Some, IsOk, IfOk, OnOk, OnErr, IsSome, IfSome, IsSomeAnd, length, string_bytes};
+    ghost use Rattle.pmsi_outside.specs.Memory.{contents_of, left_of, name_of, opened, failed, Gives};
 
     ghost contents = { λ m. Some (contents_of m.entries) };
 
@@ -130,11 +131,128 @@ impl Files for SteadyFiles {
 
     ghost steady = { λ _. ⊤ };
 
-    fn open(&mut self, name: String) -> Result<(), Failed> {
+    fn open(&mut self, name: String) -> Result<(), Failed>
+        ensures answer { IsOk result ↔ IsSome (contents_of self.old.entries (string_bytes name)) }
+        ensures failed { OnErr result (self.new ≡ failed self.old (string_bytes name)) }
+        ensures opened { OnOk result (IfSome (contents_of self.old.entries (string_bytes name)) (λ bytes. self.new ≡ opened self.old (string_bytes name) bytes)) }
+    {
         self.shelf.open(name)
     }
 
-    fn read(&mut self, buf: &mut [u8]) -> Result<usize, Failed> {
-        Ok(self.shelf.read(usize::MAX, buf))
+    fn read(&mut self, buf: &mut [u8]) -> Result<usize, Failed>
+        requires { IsSome (name_of self.old) }
+        ensures answer { IsOk result }
+        ensures given { IfOk result (λ count. IsSomeAnd self.old.file (Gives (length buf.old) self.old self.new buf.old buf.new count)) }
+    {
+        let most = buf.len();
+        Ok(self.shelf.read(most, buf))
     }
+}
+
+/// A sink that fills the room that it is given from the front, at most so many bytes a call, and whose calls, numbered from
+/// 1, fail where they are told to and where no room is left.
+#[derive(Debug, Drop)]
+pub struct MemorySink {
+    room: Vec<u8>,
+    held: usize,
+    step: u32,
+    schedule: Schedule,
+    faults: u64,
+}
+
+impl Model for MemorySink {
+    ghost use Rattle.std.specs.Prelude.{◌≤◌, ◌-◌, take, length};
+    ghost use Rattle.pmsi_outside.specs.Memory.{MemorySinkValue};
+
+    ghost Value = { MemorySinkValue };
+
+    ghost view = { λ a. record { held = take a.held a.room.items; room = length a.room.items - a.held; step = a.step; schedule = a.schedule; faults = a.faults } };
+
+    ghost invariant = { λ a. (1 ≤ a.step) × (a.held ≤ length a.room.items) };
+}
+
+impl MemorySink {
+    ghost use Rattle.std.specs.Prelude.{◌≡◌, ◌≤◌, [], length};
+
+    /// What the bytes of the room are doesn't matter.
+    pub fn new(room: Vec<u8>, step: u32, fails: Vec<u64>) -> MemorySink
+        requires { 1 ≤ step }
+        ensures { result ≡ record { held = []; room = length room.items; step = step; schedule = record { fails = fails.items; calls = 0 }; faults = 0 } }
+    {
+        MemorySink {
+            room,
+            held: 0,
+            step,
+            schedule: Schedule::new(fails),
+            faults: 0,
+        }
+    }
+
+    /// What it holds.
+    pub fn bytes(&self) -> &[u8]
+        ensures { result.now ≡ self.now.held }
+    {
+        &self.room[..self.held]
+    }
+}
+
+impl Sink for MemorySink {
+    ghost use Rattle.std.specs.Prelude.{◌≡◌, ◌↔◌, ◌⊎◌, ◌<◌, ◌≤◌, Some, true, IsErr, IfOk, OnErr, length};
+    ghost use Rattle.pmsi_outside.specs.Memory.{fails_next, sink_failure, Takes};
+
+    ghost held = { λ m. Some m.held };
+
+    ghost faults = { λ m. m.faults };
+
+    fn write(&mut self, piece: &[u8]) -> Result<usize, Failed>
+        requires { 0 < length piece.now }
+        ensures answer { IsErr result ↔ ((fails_next self.old.schedule ≡ true) ⊎ (self.old.room ≡ 0)) }
+        ensures failed { OnErr result (self.new ≡ sink_failure self.old) }
+        ensures taken { IfOk result (Takes self.old self.new piece.now) }
+        ensures step { 1 ≤ self.old.step }
+    {
+        let room = self.room.len() - self.held;
+        if self.schedule.next() || room == 0 {
+            self.faults = self.faults.saturating_add(1);
+            return Err(Failed);
+        }
+        let count = piece.len().min(self.step as usize).min(room);
+        self.room[self.held..self.held + count].copy_from_slice(&piece[..count]);
+        self.held += count;
+        Ok(count)
+    }
+}
+
+/// A sink that takes everything, keeps nothing and never fails.
+#[derive(Clone, Copy, Debug, PartialEq, Eq)]
+pub struct NullSink;
+
+impl NullSink {
+    pub fn new() -> NullSink {
+        NullSink
+    }
+}
+
+impl Sink for NullSink {
+    ghost held = { λ _. None };
+
+    ghost faults = { λ _. 0 };
+
+    fn write(&mut self, piece: &[u8]) -> Result<usize, Failed> {
+        Ok(piece.len())
+    }
+}
+
+/// A gate that lets each phase start at once.
+#[derive(Clone, Copy, Debug, PartialEq, Eq)]
+pub struct OpenGate;
+
+impl OpenGate {
+    pub fn new() -> OpenGate {
+        OpenGate
+    }
+}
+
+impl Gate for OpenGate {
+    fn before(&self, _core: u32, _slot: u32) {}
 }
