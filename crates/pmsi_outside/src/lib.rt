@@ -4,10 +4,12 @@
 
 mod files;
 mod memory;
+mod real;
 mod sink;
 mod whole;
 
 pub use files::{Failed, Files, Gate};
 pub use memory::{MemoryFiles, MemorySink, NullSink, OpenGate, SteadyFiles};
+pub use real::{DiskFiles, StdSink};
 pub use sink::Sink;
 pub use whole::{ReadAll, read_whole, write_whole};
