@@ -13,3 +13,6 @@ pub use memory::{MemoryFiles, MemorySink, NullSink, OpenGate, SteadyFiles};
 pub use real::{DiskFiles, StdSink};
 pub use sink::Sink;
 pub use whole::{ReadAll, read_whole, write_whole};
+
+#[cfg(test)]
+mod tests;
