@@ -1,9 +1,9 @@
 -- What stands between two calls while a file is read or bytes are written.
-use Rattle.std.proofs.Common.{◌≡◌, ℕ, ◌+◌, ◌<◌, ◌≤◌, ◌⊎◌, inl, inr, List, [], ◌∷◌, ◌++◌, length, take, drop, refl, sym, ◌∙◌, ap, subst, arith, append_assoc, append-nil, length-append}
+use Rattle.std.proofs.Common.{◌≡◌, ℕ, ◌<◌, ◌≤◌, ◌⊎◌, inl, inr, List, [], ◌∷◌, ◌++◌, length, take, drop, refl, sym, ◌∙◌, arith, append_assoc, append-nil, length-append}
 use Rattle.std.proofs.lemmas.Bool.{cases_lt}
 use Rattle.std.proofs.lemmas.List.{take-append-drop}
 use Rattle.std.proofs.Math.Seq.{take-append_seam}
-use Rattle.std.specs.Prelude.{Option, None, Some, IsSomeAnd, ⊤, Result, Ok, Err, IsOk}
+use Rattle.std.specs.Prelude.{Option, None, Some, IsSomeAnd, Result, Ok, Err, IsOk}
 use Rattle.std.specs.Io.KnownBytes.{Appends, Keeps, Consumes, IsAtEnd}
 use Rattle.pmsi_outside.specs.Causes.{HasCause, Blames}
 use Rattle.pmsi_outside.specs.Files.{Contents, Tells, Opens}
@@ -118,9 +118,9 @@ blaming_goes_on start now next name called before last latest (Err e) ok same b 
 blaming_goes_on start now next name called before last latest (Ok v) ok same b cause blame = record {
   later = omega (arith, b.later, cause.later);
   risen = λ above. elim (le_cases now next cause.later) [
-    inl rose ↦ blame.risen rose ∙ same
-  | inr stayed ↦ blame.kept stayed ∙ b.risen (omega (arith, stayed, above))
+    | inl rose ↦ blame.risen rose ∙ same
+    | inr stayed ↦ blame.kept stayed ∙ b.risen (omega (arith, stayed, above))
   ];
   kept = λ stayed. let still : next ≡ now = omega (arith, b.later, cause.later, stayed) in
-    blame.kept still ∙ b.kept (omega (arith, still, stayed));
+      blame.kept still ∙ b.kept (omega (arith, still, stayed));
 }

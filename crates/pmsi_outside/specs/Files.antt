@@ -1,5 +1,5 @@
 -- What the calls of a set of files give, where its contents are told.
-use Rattle.std.specs.Prelude.{◌≡◌, ℕ, ◌++◌, List, take, drop, Option, None, Some, Result, IfOk, IsSome, IsSomeAnd, ⊤}
+use Rattle.std.specs.Prelude.{◌≡◌, ℕ, List, take, Option, None, Some, Result, IfOk, IsSome, IsSomeAnd, ⊤}
 use Rattle.std.specs.Io.KnownBytes.{Consumes, IsAtEnd}
 
 -- the contents of each name that has some

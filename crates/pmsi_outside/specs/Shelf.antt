@@ -1,5 +1,5 @@
 -- What the fields of the files in memory stand for.
-use Rattle.std.specs.Prelude.{◌≡◌, ℕ, ◌<◌, ◌≤◌, List, length, drop, Option, None, Some, String, Vec, string_bytes, ⊤}
+use Rattle.std.specs.Prelude.{ℕ, ◌<◌, ◌≤◌, List, length, drop, Option, None, Some, String, Vec, string_bytes, ⊤}
 use Rattle.std.specs.Option.{option_map}
 use Rattle.std.specs.declared.alloc.Global.{Global}
 use Rattle.pmsi_outside.specs.declared.memory.shelf.OpenFile.{OpenFile}

@@ -3,10 +3,9 @@ ghost use Rattle.std.specs.Prelude.{◌≡◌, None, Some, IsErr, string_bytes};
 ghost use Rattle.pmsi_outside.specs.Causes.{counted};
 
 use crate::{Failed, Files, Sink};
-use std::fs;
 use std::io::{Read, Write};
 use std::marker::Model;
-use std::rt;
+use std::{fs, rt};
 
 /// Bytes that one read of a file of the disk gives at most.
 const CHUNK: usize = 4096;

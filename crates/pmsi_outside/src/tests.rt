@@ -85,10 +85,15 @@ fn a_failed_write_leaves_a_front(rt: HostRuntime) -> Result<(), Fail> {
     Ok(())
 }
 
+/// Passes a gate that threads may share.
+fn pass<G: Gate + Sync>(gate: &G) {
+    gate.before(0, 0);
+}
+
 #[test]
 fn nothing_is_kept_or_held_up(rt: HostRuntime) {
     assert!(rt; write_whole(&mut NullSink::new(), TEXT.as_bytes()).is_ok());
-    OpenGate::new().before(0, 0);
+    pass(&OpenGate::new());
 }
 
 #[test]

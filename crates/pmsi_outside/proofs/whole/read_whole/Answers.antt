@@ -1,4 +1,4 @@
-use Rattle.std.proofs.Common.{rules, arith, refl, ◌≡◌, ◌<◌, ◌++◌, ◌∙◌, take, length, string_bytes, []}
+use Rattle.std.proofs.Common.{rules, arith, refl, ◌≡◌, ◌<◌, ◌++◌, ◌∙◌, take, length, []}
 use Rattle.std.proofs.lemmas.Grind.{common_steps}
 use Rattle.std.specs.Io.KnownBytes.{Consumes}
 use Rattle.pmsi_model.specs.declared.limits.TheConstants.{MAX_FILE_BYTES}

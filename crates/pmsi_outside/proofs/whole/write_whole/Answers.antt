@@ -1,6 +1,5 @@
-use Rattle.std.proofs.Common.{rules, ◌<◌, ◌≤◌, length, arith}
+use Rattle.std.proofs.Common.{rules, ◌<◌, length, arith}
 use Rattle.std.proofs.lemmas.Grind.{common_steps}
-use Rattle.std.specs.Result.{OnErr}
 use Rattle.pmsi_outside.specs.Sink.{AppendsPart}
 use Rattle.pmsi_outside.proofs.Progress.{writing_goes_on, writing_stops, writing_some}
 use Rattle.pmsi_outside.proofs.whole.write_whole.Goals as goal

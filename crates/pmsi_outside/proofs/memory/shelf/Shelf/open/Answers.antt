@@ -1,4 +1,4 @@
-use Rattle.std.proofs.Common.{◌≡◌, ◌∙◌, sym, refl, string_bytes, Some, None}
+use Rattle.std.proofs.Common.{◌≡◌, sym, refl, string_bytes, Some, None}
 use Rattle.pmsi_outside.specs.Memory.{entries_of, contents_of, bytes_at}
 use Rattle.pmsi_outside.proofs.Places.{place_found, place_none}
 use Rattle.pmsi_outside.proofs.memory.shelf.Shelf.open.Goals as goal
