@@ -1,0 +1,10 @@
+pub mod Held
+pub mod Lines
+pub mod Requests
+pub mod Fine
+pub mod Moves
+pub mod Fills
+pub mod Whole
+pub mod Acts
+pub mod Steps
+pub mod Invariant

@@ -1,0 +1,5 @@
+use Rattle.coherence_laws.proofs.Invariant.{stays_coherent}
+use Rattle.coherence_laws.proofs.stays_coherent.Goals as goal
+
+pub returns : goal.returns
+returns c = stays_coherent

@@ -1,0 +1,9 @@
+-- The laws of the machine.
+use Rattle.std.specs.Prelude.{ℕ}
+use Rattle.pmsi_model.specs.Job.{JobValue, IsJob}
+use Rattle.pmsi_model.specs.Run.{machine_at}
+use Rattle.pmsi_model.specs.Coherent.{IsCoherent}
+
+-- the machine is coherent at every slot boundary
+abbrev pub StaysCoherent : Type 0
+StaysCoherent = (job : JobValue) → IsJob job → (slot : ℕ) → IsCoherent job.shape (machine_at job slot)
