@@ -8,3 +8,4 @@ pub mod Whole
 pub mod Acts
 pub mod Steps
 pub mod Invariant
+pub mod Counts
