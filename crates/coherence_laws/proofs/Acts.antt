@@ -15,12 +15,14 @@ use Rattle.pmsi_model.specs.Machine.{Machine, Request, CoreState, with_core, mod
 use Rattle.pmsi_model.specs.Phase.{met_bytes, retired_with}
 use Rattle.pmsi_model.specs.Bus.{post, post_at, noted_post_in, noted_post, fill, fill_for, filled_line, append_demanded, write_back, clear_victim, has_victim_for, keeps_line}
 use Rattle.pmsi_model.specs.Coherent.{RequestsOnce, posted_request, IsCoherent}
-use Rattle.coherence_laws.proofs.Held.{mode_without, mode_to_front, mode_with_mode}
-use Rattle.coherence_laws.proofs.Requests.{request_more, request_less, write_queued, requests_once_more, requests_once_less}
-use Rattle.coherence_laws.proofs.Fine.{IsWantFine, IsFine, fine_later}
-use Rattle.coherence_laws.proofs.Moves.{FineCore, choose, fine_noted, fine_post, fine_rest}
-use Rattle.coherence_laws.proofs.Fills.{fine_fill, fine_back}
-use Rattle.coherence_laws.proofs.Whole.{OwnedAlone, WritesAlone, IsWhole, at_core, own_core, other_core, alone_from, writes_from, IsLess}
+use Rattle.pmsi_model.proofs.Held.{mode_without, mode_to_front, mode_with_mode}
+use Rattle.pmsi_model.proofs.Requests.{request_more, request_less, write_queued, requests_once_more, requests_once_less}
+use Rattle.pmsi_model.proofs.Cases.{by_test, at_core, own_core, other_core}
+use Rattle.coherence_laws.proofs.Fine.{IsWantFine, IsFine, FineCore, at_some, no_victim, fine_later, fine_status, fine_touched, fine_missed}
+use Rattle.coherence_laws.proofs.Posts.{fine_noted, fine_post, fine_rest}
+use Rattle.coherence_laws.proofs.Fills.{fine_fill}
+use Rattle.coherence_laws.proofs.WriteBacks.{fine_back}
+use Rattle.coherence_laws.proofs.Whole.{OwnedAlone, WritesAlone, IsWhole, alone_from, writes_from, IsLess}
 
 -- ---- post
 

@@ -12,10 +12,11 @@ use Rattle.pmsi_model.specs.Machine.{Request, CoreState, mode_of, has_line, has_
 use Rattle.pmsi_model.specs.Run.{machine_at}
 use Rattle.pmsi_model.specs.Coherent.{ListsEachOnce, RequestsOnce, posted_request, victim_in}
 use Rattle.coherence_laws.specs.Laws.{WriteBacksFit}
-use Rattle.coherence_laws.proofs.Requests.{request_more, request_less, removed_none, requests_once_more, requests_once_less}
-use Rattle.coherence_laws.proofs.Moves.{FineCore}
+use Rattle.pmsi_model.proofs.Requests.{request_more, request_less, removed_none, requests_once_more, requests_once_less}
+use Rattle.pmsi_model.proofs.Cases.{by_test, at_core, own_core, other_core}
+use Rattle.coherence_laws.proofs.Fine.{IsWantFine, IsFine, FineCore, at_some, no_victim, fine_later, fine_status, fine_touched, fine_missed}
 use Rattle.coherence_laws.proofs.Whole.{IsWhole}
-use Rattle.coherence_laws.proofs.Invariant.{whole_at}
+use Rattle.coherence_laws.proofs.Slots.{whole_at}
 
 -- ---- lines, each with a request
 

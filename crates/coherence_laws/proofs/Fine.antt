@@ -11,13 +11,14 @@ use Rattle.pmsi_model.specs.declared.Status.{Status}
 use Rattle.pmsi_model.specs.declared.Status.TheVariants.{Running}
 use Rattle.pmsi_model.specs.declared.Want.{Want}
 use Rattle.pmsi_model.specs.Geometry.{set_of}
-use Rattle.pmsi_model.specs.Machine.{Request, mode_of, is_modified, is_shared, is_write, without, to_front, with_mode, has_line, append_once, has_request, has_write, request_of, removed}
+use Rattle.pmsi_model.specs.Machine.{CoreState, Request, mode_of, is_modified, is_shared, is_write, without, to_front, with_mode, has_line, append_once, has_request, has_write, request_of, removed}
 use Rattle.pmsi_model.specs.Phase.{set_lines, evicted, drop_shared, victim_of, append_victim, touched_line, permits}
 use Rattle.pmsi_model.specs.Bus.{post_at, filled_line, append_demanded, clear_victim, has_victim_for, is_core}
 use Rattle.pmsi_model.specs.Coherent.{HoldsEachOnce, ListsEachOnce, RequestsOnce, posted_request, victim_in, IsPostedBy}
-use Rattle.coherence_laws.proofs.Held.{mode_without, mode_to_front, mode_with_mode, once_without, once_to_front, once_with_mode, fewer_without, room_without, same_with_mode, count_to_front, evicted_held, evicted_none}
-use Rattle.coherence_laws.proofs.Lines.{line_more, line_append_once, once_more, once_append_once}
-use Rattle.coherence_laws.proofs.Requests.{request_more, has_request_more, has_write_more, request_less, request_core, has_request_less, has_request_else, has_write_else, request_queued, write_queued, requests_once_more, requests_once_less}
+use Rattle.pmsi_model.proofs.Held.{mode_without, mode_to_front, mode_with_mode, once_without, once_to_front, once_with_mode, fewer_without, room_without, same_with_mode, count_to_front, evicted_held, evicted_none}
+use Rattle.pmsi_model.proofs.WriteBacks.{line_more, line_append_once, once_more, once_append_once}
+use Rattle.pmsi_model.proofs.Requests.{request_more, has_request_more, has_write_more, request_less, request_core, has_request_less, has_request_else, has_write_else, request_queued, write_queued, requests_once_more, requests_once_less}
+use Rattle.pmsi_model.proofs.Cases.{by_test, at_core, own_core, other_core}
 
 -- what holds of a core's want
 pub record IsWantFine (shape : Geometry) (slot : ℕ) (held : List (ℕ × Mode)) (backs : List ℕ) (status : Status) (want : Want) : Type 0 where
@@ -43,6 +44,21 @@ pub record IsFine (shape : Geometry) (slot : ℕ) (posted : List Request) (c : �
   pub back_owned : (line : ℕ) → has_line line backs ≡ true → mode_of line held ≡ Some Modified
   pub back_due : (line : ℕ) → has_line line backs ≡ true → (victim_in want ≡ Some line) ⊎ (has_request line posted ≡ true)
   pub want_fine : (w : Want) → want ≡ Some w → IsWantFine shape slot held backs status w
+
+abbrev pub FineCore : Geometry → ℕ → List Request → ℕ → CoreState → Type 0
+FineCore shape slot posted c k = IsFine shape slot posted c k.held k.want k.write_backs k.status
+
+-- a want that is the core's
+pub at_some : (P : Want → Type 0) (w v : Want) → P w → Some w ≡ Some v → P v
+at_some P w v p is = let e : w ≡ v = grind arith in subst P e p
+
+none_of : (o : Option ℕ) → ((n : ℕ) → o ≢ Some n) → o ≡ None
+none_of None never = refl
+none_of (Some n) never = absurd (never n refl)
+
+-- a posted want has no victim
+pub no_victim : (shape : Geometry) (slot : ℕ) (held : List (ℕ × Mode)) (backs : List ℕ) (status : Status) (want : Want) → IsWantFine shape slot held backs status want → is_some want.post ≡ true → want.victim ≡ None
+no_victim shape slot held backs status want w posted = none_of want.victim (λ n is. grind (arith, w.victim_unposted n is))
 
 -- ---- a later slot
 

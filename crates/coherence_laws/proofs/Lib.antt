@@ -1,11 +1,9 @@
-pub mod Held
-pub mod Lines
-pub mod Requests
 pub mod Fine
-pub mod Moves
+pub mod Posts
 pub mod Fills
+pub mod WriteBacks
 pub mod Whole
 pub mod Acts
-pub mod Steps
-pub mod Invariant
+pub mod Phases
+pub mod Slots
 pub mod Counts

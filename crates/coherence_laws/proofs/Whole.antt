@@ -13,11 +13,13 @@ use Rattle.pmsi_model.specs.declared.Want.{Want}
 use Rattle.pmsi_model.specs.Machine.{Machine, Request, CoreState, with_core, mode_of, mode_in, owns, nobody_owns, is_write, without, to_front, with_mode, has_line, append_once, has_request, has_write, request_of, removed}
 use Rattle.pmsi_model.specs.Bus.{post, post_at, noted_post_in, noted_post, fill, fill_for, filled_line, append_demanded, write_back, clear_victim, has_victim_for, keeps_line}
 use Rattle.pmsi_model.specs.Coherent.{RequestsOnce, posted_request, IsCoherent}
-use Rattle.coherence_laws.proofs.Held.{mode_without, mode_to_front, mode_with_mode}
-use Rattle.coherence_laws.proofs.Requests.{request_more, request_less, write_queued, requests_once_more, requests_once_less}
-use Rattle.coherence_laws.proofs.Fine.{IsWantFine, IsFine, fine_later}
-use Rattle.coherence_laws.proofs.Moves.{FineCore, choose, fine_noted, fine_post, fine_rest}
-use Rattle.coherence_laws.proofs.Fills.{fine_fill, fine_back}
+use Rattle.pmsi_model.proofs.Held.{mode_without, mode_to_front, mode_with_mode}
+use Rattle.pmsi_model.proofs.Requests.{request_more, request_less, write_queued, requests_once_more, requests_once_less}
+use Rattle.pmsi_model.proofs.Cases.{by_test, at_core, own_core, other_core}
+use Rattle.coherence_laws.proofs.Fine.{IsWantFine, IsFine, FineCore, at_some, no_victim, fine_later, fine_status, fine_touched, fine_missed}
+use Rattle.coherence_laws.proofs.Posts.{fine_noted, fine_post, fine_rest}
+use Rattle.coherence_laws.proofs.Fills.{fine_fill}
+use Rattle.coherence_laws.proofs.WriteBacks.{fine_back}
 
 abbrev pub OwnedAlone : (ℕ → CoreState) → Type 0
 OwnedAlone cores = (c d line : ℕ) → mode_of line (cores c).held ≡ Some Modified → d ≢ c → mode_of line (cores d).held ≡ None
@@ -74,19 +76,6 @@ whole_later shape slot posted cores w = record {
   fine = λ c. fine_later shape slot posted c (cores c).held (cores c).want (cores c).write_backs (cores c).status (w.fine c);
   alone = w.alone; once = w.once; write_alone = w.write_alone; outside = w.outside; idle = w.idle;
 }
-
--- ---- one core becomes another
-
-pub at_core : (P : ℕ → CoreState → Type 0) (c : ℕ) (k : CoreState) (f : ℕ → CoreState) → P c k → ((d : ℕ) → d ≢ c → P d (f d)) → (d : ℕ) → P d (if d == c then k else f d)
-at_core P c k f own others d = choose (P d) (d == c) k (f d)
-    (λ same. let e : c ≡ d = grind arith in subst (λ n. P n k) e own)
-    (λ other. others d (λ same. grind arith))
-
-pub own_core : (c : ℕ) (k : CoreState) (f : ℕ → CoreState) → (if c == c then k else f c) ≡ k
-own_core c k f = at_core (λ d j. d ≡ c → j ≡ k) c k f (λ same. refl) (λ d other same. absurd (other same)) c refl
-
-pub other_core : (c : ℕ) (k : CoreState) (f : ℕ → CoreState) (d : ℕ) → d ≢ c → (if d == c then k else f d) ≡ f d
-other_core c k f = at_core (λ d j. d ≢ c → j ≡ f d) c k f (λ other. absurd (other refl)) (λ d other same. refl)
 
 -- no line becomes owned, and none that isn't held becomes held
 pub alone_from : (old new : ℕ → CoreState) → OwnedAlone old → ((d l : ℕ) → mode_of l (new d).held ≡ Some Modified → mode_of l (old d).held ≡ Some Modified)

@@ -2,3 +2,8 @@ pub mod Bytes
 pub mod Queues
 pub mod Encodings
 pub mod Worked
+pub mod Cases
+pub mod Held
+pub mod WriteBacks
+pub mod Requests
+pub mod Boundaries

@@ -1,4 +1,4 @@
-use Rattle.coherence_laws.proofs.Invariant.{stays_coherent}
+use Rattle.coherence_laws.proofs.Slots.{stays_coherent}
 use Rattle.coherence_laws.proofs.stays_coherent.Goals as goal
 
 pub returns : goal.returns

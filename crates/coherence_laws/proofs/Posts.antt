@@ -1,4 +1,4 @@
--- What an action on the bus does to the facts of one core.
+-- What the post of a request does to the facts of each core, and what the fill of another core's does.
 use Rattle.std.proofs.Common.{◌≡◌, ◌≢◌, ◌⊎◌, ℕ, zero, suc, ◌+◌, ◌<◌, ◌≤◌, List, [], ◌∷◌, ◌++◌, length, drop, Option, Some, None, is_some, is_none, Bool, true, false, not, ◌==◌, ◌&&◌, ◌||◌, if◌then◌else◌, refl, sym, ap, ◌∙◌, subst, inl, inr, arith}
 use Rattle.std.specs.Option.{option_map}
 use Rattle.pmsi_model.specs.declared.job.Geometry.{Geometry}
@@ -13,29 +13,11 @@ use Rattle.pmsi_model.specs.Machine.{Request, CoreState, mode_of, is_write, with
 use Rattle.pmsi_model.specs.Phase.{set_lines}
 use Rattle.pmsi_model.specs.Bus.{post_at, noted_post_in, filled_line, append_demanded, clear_victim, has_victim_for, is_core}
 use Rattle.pmsi_model.specs.Coherent.{HoldsEachOnce, ListsEachOnce, RequestsOnce, posted_request, victim_in, IsPostedBy}
-use Rattle.coherence_laws.proofs.Held.{mode_without, mode_to_front, mode_with_mode, once_without, once_to_front, once_with_mode, fewer_without, room_without, same_with_mode, count_to_front}
-use Rattle.coherence_laws.proofs.Lines.{line_more, line_append_once, once_more, once_append_once}
-use Rattle.coherence_laws.proofs.Requests.{request_more, has_request_more, request_less, has_request_less, has_request_else, request_queued}
-use Rattle.coherence_laws.proofs.Fine.{IsWantFine, IsFine}
-
-abbrev pub FineCore : Geometry → ℕ → List Request → ℕ → CoreState → Type 0
-FineCore shape slot posted c k = IsFine shape slot posted c k.held k.want k.write_backs k.status
-
--- one of two, by a test
-pub choose : {A : Type 0} (P : A → Type 0) (b : Bool) (t e : A) → (b ≡ true → P t) → (b ≡ false → P e) → P (if b then t else e)
-choose P true t e on_true on_false = on_true refl
-choose P false t e on_true on_false = on_false refl
-
-pub at_some : (P : Want → Type 0) (w v : Want) → P w → Some w ≡ Some v → P v
-at_some P w v p is = let e : w ≡ v = grind arith in subst P e p
-
-none_of : (o : Option ℕ) → ((n : ℕ) → o ≢ Some n) → o ≡ None
-none_of None never = refl
-none_of (Some n) never = absurd (never n refl)
-
--- a posted want has no victim
-pub no_victim : (shape : Geometry) (slot : ℕ) (held : List (ℕ × Mode)) (backs : List ℕ) (status : Status) (want : Want) → IsWantFine shape slot held backs status want → is_some want.post ≡ true → want.victim ≡ None
-no_victim shape slot held backs status want w posted = none_of want.victim (λ n is. grind (arith, w.victim_unposted n is))
+use Rattle.pmsi_model.proofs.Held.{mode_without, mode_to_front, mode_with_mode, once_without, once_to_front, once_with_mode, fewer_without, room_without, same_with_mode, count_to_front}
+use Rattle.pmsi_model.proofs.WriteBacks.{line_more, line_append_once, once_more, once_append_once}
+use Rattle.pmsi_model.proofs.Requests.{request_more, has_request_more, request_less, has_request_less, has_request_else, request_queued}
+use Rattle.pmsi_model.proofs.Cases.{by_test, at_core, own_core, other_core}
+use Rattle.coherence_laws.proofs.Fine.{IsWantFine, IsFine, FineCore, at_some, no_victim, fine_later, fine_status, fine_touched, fine_missed}
 
 -- ---- another core posts
 

@@ -20,11 +20,13 @@ use Rattle.pmsi_model.specs.Phase.{phases}
 use Rattle.pmsi_model.specs.Bus.{is_served, can_request, can_request_for, requests_now, name_of, kind_of_name, noted_post, post, post_at, fill, write_back, keeps_line, post_action, request_action, back_action, action_of, after_action}
 use Rattle.pmsi_model.specs.Run.{start_core, start_of, after_phases, slot_done, machine_at}
 use Rattle.pmsi_model.specs.Coherent.{IsCoherent}
+use Rattle.pmsi_model.proofs.Boundaries.{phases-slot, machine_at-slot}
+use Rattle.pmsi_model.proofs.Cases.{by_test, at_core, own_core, other_core}
+use Rattle.coherence_laws.proofs.Fine.{IsWantFine, IsFine, FineCore, at_some, no_victim, fine_later, fine_status, fine_touched, fine_missed}
 use Rattle.coherence_laws.specs.Laws.{StaysCoherent}
-use Rattle.coherence_laws.proofs.Moves.{choose, no_victim}
-use Rattle.coherence_laws.proofs.Whole.{IsWhole, whole_coherent, whole_later, own_core}
+use Rattle.coherence_laws.proofs.Whole.{IsWhole, whole_coherent, whole_later}
 use Rattle.coherence_laws.proofs.Acts.{post_whole, fill_whole, back_whole}
-use Rattle.coherence_laws.proofs.Steps.{phases_whole, phases_slot}
+use Rattle.coherence_laws.proofs.Phases.{phases_whole}
 
 -- ---- the action of a slot
 
@@ -76,7 +78,7 @@ post_action_whole : (job : JobValue) (x : Machine) (c : ℕ) (want : Want) → I
 unfolding after_action
 post_action_whole job x c want w below is unposted free =
     let same = kind_named want.kind (mode_in x c want.line) in
-    choose (WholeAfter job x c) (is_served job (post x c want.kind want.line) c want.line) (PostFill (name_of want.kind (mode_in x c want.line)) want.line) (Post (name_of want.kind (mode_in x c want.line)) want.line)
+    by_test (WholeAfter job x c) (is_served job (post x c want.kind want.line) c want.line) (PostFill (name_of want.kind (mode_in x c want.line)) want.line) (Post (name_of want.kind (mode_in x c want.line)) want.line)
     (λ served. subst (λ kind. IsWhole job.shape (x.slot + 1) (fill (post x c kind want.line) c).posted (fill (post x c kind want.line) c).cores) (sym same)
     (post_fill_whole job x c want w below is unposted free (grind arith)))
     (λ waits. subst (λ kind. IsWhole job.shape (x.slot + 1) (post x c kind want.line).posted (post x c kind want.line).cores) (sym same) (post_whole job.shape x c want w below is unposted free))
@@ -86,7 +88,7 @@ request_action_whole : (job : JobValue) (x : Machine) (c : ℕ) (want : Option W
 unfolding after_action
 request_action_whole job x c None w below is now = w
 request_action_whole job x c (Some want) w below is now =
-    choose (WholeAfter job x c) (is_some want.post) (Fill want.line) (post_action job x c want)
+    by_test (WholeAfter job x c) (is_some want.post) (Fill want.line) (post_action job x c want)
     (λ posted. fill_whole job.shape (x.slot + 1) x c want w below is posted (nobody_at_all job.shape (x.slot + 1) x want.line w (served_now job x c want is posted now)))
     (λ unposted. post_action_whole job x c want w below is (grind arith) (unposted_now job x c want is unposted now))
 
@@ -99,7 +101,7 @@ back_action_whole job x c (line ∷ lines) w below is = back_whole job.shape (x.
 pub action_whole : (job : JobValue) (x : Machine) (c : ℕ) → IsWhole job.shape (x.slot + 1) x.posted x.cores → c < job.shape.cores → WholeAfter job x c (action_of job x c)
 unfolding action_of
 action_whole job x c w below =
-    choose (WholeAfter job x c) (requests_now job x c) (request_action job x c (x.cores c).want) (back_action x c (x.cores c).write_backs)
+    by_test (WholeAfter job x c) (requests_now job x c) (request_action job x c (x.cores c).want) (back_action x c (x.cores c).write_backs)
     (λ now. request_action_whole job x c (x.cores c).want w below refl now)
     (λ later. back_action_whole job x c (x.cores c).write_backs w below refl)
 
@@ -129,7 +131,7 @@ unfolding slot_done
 slot_whole job x cores ways w =
     let y : Machine = after_phases job x in
     let c : ℕ = owner_of_slot (plan_of job) x.slot in
-    let same : y.slot ≡ x.slot = phases_slot job job.shape.cores x in
+    let same : y.slot ≡ x.slot = phases-slot job job.shape.cores x in
     let before : IsWhole job.shape (x.slot + 1) y.posted y.cores = phases_whole job job.shape.cores x ways (omega arith) (whole_later job.shape x.slot x.posted x.cores w) in
     subst (λ (s : ℕ). IsWhole job.shape (s + 1) (after_action y c (action_of job y c)).posted (after_action y c (action_of job y c)).cores) same
     (action_whole job y c (subst (λ (s : ℕ). IsWhole job.shape (s + 1) y.posted y.cores) (sym same) before) (mod_below x.slot job.shape.cores cores))

@@ -16,9 +16,10 @@ use Rattle.pmsi_model.specs.Access.{kind_of}
 use Rattle.pmsi_model.specs.Effect.{Effect, Next, Memory, Stop}
 use Rattle.pmsi_model.specs.Machine.{Machine, Request, CoreState, mode_of, without, to_front}
 use Rattle.pmsi_model.specs.Phase.{Context, can_run, is_running, after_effect, effect_at, accessed, missed, halted, is_permitted, permits, evicted, drop_shared, victim_of, append_victim, touched_line, instruction, instructions, context_of, phase, phases}
-use Rattle.coherence_laws.proofs.Held.{mode_without, mode_to_front}
-use Rattle.coherence_laws.proofs.Fine.{IsFine, fine_status, fine_touched, fine_missed}
-use Rattle.coherence_laws.proofs.Moves.{FineCore, choose}
+use Rattle.pmsi_model.proofs.Held.{mode_without, mode_to_front}
+use Rattle.pmsi_model.proofs.Boundaries.{phases-slot}
+use Rattle.pmsi_model.proofs.Cases.{by_test, at_core, own_core, other_core}
+use Rattle.coherence_laws.proofs.Fine.{IsWantFine, IsFine, FineCore, at_some, no_victim, fine_later, fine_status, fine_touched, fine_missed}
 use Rattle.coherence_laws.proofs.Whole.{IsWhole, IsLess, whole_less}
 
 -- a core keeps its facts, and what it holds only gets less
@@ -63,7 +64,7 @@ effect_kept shape slot posted c (Stop halt) x some f can = let k : CoreState = x
   less = λ l. inl refl;
 }
 effect_kept shape slot posted c (Memory access) x some f can =
-    choose (λ (y : Context). IsKept shape (slot + 1) posted c x.core y.core) (is_permitted shape access x.core) (accessed shape access x) (record x { core = missed shape slot access x.core })
+    by_test (λ (y : Context). IsKept shape (slot + 1) posted c x.core y.core) (is_permitted shape access x.core) (accessed shape access x) (record x { core = missed shape slot access x.core })
     (λ granted. accessed_kept shape slot posted c access x f can)
     (λ denied. missed_kept shape slot posted c access x.core some f can denied)
 
@@ -71,7 +72,7 @@ pub instruction_kept : (shape : Geometry) (slot : ℕ) (text : List ℕ) (posted
     → IsKept shape (slot + 1) posted c x.core (instruction shape slot text x).core
 unfolding instruction
 instruction_kept shape slot text posted c x some f =
-    choose (λ (y : Context). IsKept shape (slot + 1) posted c x.core y.core) (can_run x.core) (after_effect shape slot (effect_at shape text x.core) x) x
+    by_test (λ (y : Context). IsKept shape (slot + 1) posted c x.core y.core) (can_run x.core) (after_effect shape slot (effect_at shape text x.core) x) x
     (λ can. effect_kept shape slot posted c (effect_at shape text x.core) x some f can)
     (λ stays. record { fine = f; less = λ l. inl refl })
 
@@ -96,22 +97,13 @@ phase_whole job c x some below w =
     let kept : IsKept job.shape (x.slot + 1) x.posted c (x.cores c) k = instructions_kept job.shape x.slot (text_of job c) x.posted c job.shape.quantum (context_of x c) some (w.fine c) in
     whole_less job.shape (x.slot + 1) x.posted x.cores c k w below kept.fine kept.less
 
-pub phase_slot : (job : JobValue) (c : ℕ) (x : Machine) → (phase job c x).slot ≡ x.slot
-unfolding phase
-phase_slot job c x = refl
-
-pub phases_slot : (job : JobValue) (count : ℕ) (x : Machine) → (phases job count x).slot ≡ x.slot
-unfolding phases
-phases_slot job zero x = refl
-phases_slot job (suc count) x = phase_slot job count (phases job count x) ∙ phases_slot job count x
-
 pub phases_whole : (job : JobValue) (count : ℕ) (x : Machine) → 1 ≤ job.shape.ways → count ≤ job.shape.cores → IsWhole job.shape (x.slot + 1) x.posted x.cores
     → IsWhole job.shape (x.slot + 1) (phases job count x).posted (phases job count x).cores
 unfolding phases
 phases_whole job zero x some within w = w
 phases_whole job (suc count) x some within w =
     let y : Machine = phases job count x in
-    let same : y.slot ≡ x.slot = phases_slot job count x in
+    let same : y.slot ≡ x.slot = phases-slot job count x in
     let before : IsWhole job.shape (x.slot + 1) y.posted y.cores = phases_whole job count x some (omega arith) w in
     subst (λ (s : ℕ). IsWhole job.shape (s + 1) (phase job count y).posted (phase job count y).cores) same
     (phase_whole job count y some (omega arith) (subst (λ (s : ℕ). IsWhole job.shape (s + 1) y.posted y.cores) (sym same) before))
