@@ -7,3 +7,5 @@ pub mod Held
 pub mod WriteBacks
 pub mod Requests
 pub mod Boundaries
+pub mod Owners
+pub mod Changes
