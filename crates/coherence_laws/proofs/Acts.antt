@@ -15,6 +15,7 @@ use Rattle.pmsi_model.specs.Machine.{Machine, Request, CoreState, with_core, mod
 use Rattle.pmsi_model.specs.Phase.{met_bytes, retired_with}
 use Rattle.pmsi_model.specs.Bus.{post, post_at, noted_post_in, noted_post, fill, fill_for, filled_line, append_demanded, write_back, clear_victim, has_victim_for, keeps_line}
 use Rattle.pmsi_model.specs.Coherent.{RequestsOnce, posted_request, IsCoherent}
+use Rattle.pmsi_model.proofs.Changes.{posted_core, filled_core, written_core, noted-mode, noted-want, noted-unheld}
 use Rattle.pmsi_model.proofs.Held.{mode_without, mode_to_front, mode_with_mode}
 use Rattle.pmsi_model.proofs.Requests.{request_more, request_less, write_queued, requests_once_more, requests_once_less}
 use Rattle.pmsi_model.proofs.Cases.{by_test, at_core, own_core, other_core}
@@ -26,27 +27,11 @@ use Rattle.coherence_laws.proofs.Whole.{OwnedAlone, WritesAlone, IsWhole, alone_
 
 -- ---- post
 
-noted_less_in : (kind : Kind) (line : ℕ) (mode : Option Mode) (k : CoreState) → IsLess k (noted_post_in kind line mode k)
-noted_less_in kind line None k l = inl refl
-noted_less_in Read line (Some Shared) k l = inl refl
-noted_less_in Write line (Some Shared) k l = grind (arith, mode_without l line k.held)
-noted_less_in kind line (Some Modified) k l = inl refl
+noted_less : (kind : Kind) (line : ℕ) (k : CoreState) → IsLess k (noted_post kind line k)
+noted_less kind line k l = grind (arith, noted-mode kind line l k)
 
-noted_unshared : (line : ℕ) (mode : Option Mode) (k : CoreState) → mode_of line k.held ≡ mode → mode_of line (noted_post_in Write line mode k).held ≢ Some Shared
-noted_unshared line None k is = grind arith
-noted_unshared line (Some Shared) k is = grind (arith, mode_without line line k.held)
-noted_unshared line (Some Modified) k is = grind arith
-
-noted_nothing : (kind : Kind) (line : ℕ) (mode : Option Mode) (k : CoreState) → mode ≡ None → noted_post_in kind line mode k ≡ k
-noted_nothing kind line None k none = refl
-noted_nothing kind line (Some Shared) k none = absurd (grind arith)
-noted_nothing kind line (Some Modified) k none = absurd (grind arith)
-
-noted_want : (kind : Kind) (line : ℕ) (mode : Option Mode) (k : CoreState) → (noted_post_in kind line mode k).want ≡ k.want
-noted_want kind line None k = refl
-noted_want Read line (Some Shared) k = refl
-noted_want Write line (Some Shared) k = refl
-noted_want kind line (Some Modified) k = refl
+noted_unshared : (kind : Kind) (line : ℕ) (k : CoreState) → kind ≡ Write → mode_of line (noted_post kind line k).held ≢ Some Shared
+noted_unshared kind line k write shared = grind (arith, noted-mode kind line line k)
 
 posted_alone : (posted : List Request) (old new : ℕ → CoreState) (r : Request) → WritesAlone posted old → request_of r.core posted ≡ None
     → ((d l : ℕ) → (mode_of l (new d).held ≡ mode_of l (old d).held) ⊎ (mode_of l (new d).held ≡ None))
@@ -64,7 +49,7 @@ pub post_whole : (shape : Geometry) (x : Machine) (c : ℕ) (want : Want) → Is
 unfolding post
 post_whole shape x c want w below is unposted free =
     let r : Request = record { core = c; line = want.line; kind = want.kind } in
-    let k : CoreState = record (x.cores c) { want = option_map (post_at x.slot) (x.cores c).want; turn = WriteBackTurn } in
+    let k : CoreState = posted_core x.slot (x.cores c) in
     let noted : ℕ → CoreState = λ d. noted_post want.kind want.line (x.cores d) in
     let new : ℕ → CoreState = λ d. if d == c then k else noted d in
     let f = w.fine c in
@@ -74,7 +59,7 @@ post_whole shape x c want w below is unposted free =
         (subst (λ o. IsFine shape (x.slot + 1) x.posted c (x.cores c).held o (x.cores c).write_backs (x.cores c).status) is f) unposted free refl) in
     let none : request_of c x.posted ≡ None = grind (arith, f.posted_wants) in
     let less : (d l : ℕ) → (mode_of l (new d).held ≡ mode_of l (x.cores d).held) ⊎ (mode_of l (new d).held ≡ None)
-        = at_core (λ d j. IsLess (x.cores d) j) c k noted (λ l. inl refl) (λ d other. noted_less_in want.kind want.line (mode_of want.line (x.cores d).held) (x.cores d)) in
+        = at_core (λ d j. IsLess (x.cores d) j) c k noted (λ l. inl refl) (λ d other. noted_less want.kind want.line (x.cores d)) in
     record {
       fine = at_core (FineCore shape (x.slot + 1) (x.posted ++ r ∷ [])) c k noted own
           (λ d other. fine_noted shape (x.slot + 1) x.posted d (x.cores d) r want.kind (mode_of want.line (x.cores d).held) (w.fine d) (λ same. other (sym same)) refl);
@@ -82,11 +67,11 @@ post_whole shape x c want w below is unposted free =
       once = requests_once_more x.posted r w.once none;
       write_alone = posted_alone x.posted x.cores new r w.write_alone none less
           (λ write. at_core (λ d j. d ≢ c → mode_of want.line j.held ≢ Some Shared) c k noted (λ other. absurd (other refl))
-          (λ d other _. subst (λ kind. mode_of want.line (noted_post kind want.line (x.cores d)).held ≢ Some Shared) (sym write) (noted_unshared want.line (mode_of want.line (x.cores d).held) (x.cores d) refl)));
+          (λ d other _. noted_unshared want.kind want.line (x.cores d) write));
       outside = at_core (λ d j. shape.cores ≤ d → j.held ≡ []) c k noted (λ past. absurd (omega arith))
-          (λ d other past. ap (λ (j : CoreState). j.held) (noted_nothing want.kind want.line (mode_of want.line (x.cores d).held) (x.cores d) (ap (mode_of want.line) (w.outside d past))) ∙ w.outside d past);
+          (λ d other past. ap (λ (j : CoreState). j.held) (noted-unheld want.kind want.line (x.cores d) (ap (mode_of want.line) (w.outside d past))) ∙ w.outside d past);
       idle = at_core (λ d j. shape.cores ≤ d → j.want ≡ None) c k noted (λ past. absurd (omega arith))
-          (λ d other past. noted_want want.kind want.line (mode_of want.line (x.cores d).held) (x.cores d) ∙ w.idle d past);
+          (λ d other past. noted-want want.kind want.line (x.cores d) ∙ w.idle d past);
     }
 
 -- ---- fill
@@ -155,13 +140,7 @@ pub fill_whole : (shape : Geometry) (slot : ℕ) (x : Machine) (c : ℕ) (want :
     → ((d : ℕ) → mode_in x d want.line ≢ Some Modified) → IsWhole shape slot (fill x c).posted (fill x c).cores
 unfolding fill
 fill_whole shape slot x c want w below is post unowned =
-    let rest : List Request = removed c x.posted in
-    let k : CoreState = record (retired_with want.access (met_bytes want.access x.memory) (x.cores c)) {
-      held = filled_line want.kind (has_write want.line rest) want.line (x.cores c).held;
-      want = None;
-      write_backs = append_demanded want.kind (has_request want.line rest) want.line (x.cores c).write_backs;
-      turn = WriteBackTurn;
-    } in
+    let k : CoreState = filled_core x c want in
     subst (λ o. IsWhole shape slot (fill_for x c o).posted (fill_for x c o).cores) (sym is)
     (fill_changed shape slot x.posted x.cores c want k w below is post unowned
     (fine_fill shape slot x.posted c (x.cores c).held want (x.cores c).write_backs (x.cores c).status want.kind
@@ -213,12 +192,7 @@ pub back_whole : (shape : Geometry) (slot : ℕ) (x : Machine) (c line : ℕ) (l
 unfolding write_back
 back_whole shape slot x c line lines w below is =
     let kept : Bool = keeps_line x c line in
-    let k : CoreState = record (x.cores c) {
-      held = if kept then with_mode line Shared (x.cores c).held else without line (x.cores c).held;
-      want = option_map (clear_victim line) (x.cores c).want;
-      write_backs = drop 1 (x.cores c).write_backs;
-      turn = RequestTurn;
-    } in
+    let k : CoreState = written_core line kept (x.cores c) in
     back_changed shape slot x.posted x.cores c line kept k w below (kept_reads x c line)
     (subst (λ b. IsFine shape slot x.posted c k.held k.want (drop 1 b) (x.cores c).status) (sym is)
     (fine_back shape slot x.posted c (x.cores c).held (x.cores c).want line lines (x.cores c).status kept

@@ -21,6 +21,8 @@ use Rattle.pmsi_model.specs.Bus.{is_served, can_request, can_request_for, reques
 use Rattle.pmsi_model.specs.Run.{start_core, start_of, after_phases, slot_done, machine_at}
 use Rattle.pmsi_model.specs.Coherent.{IsCoherent}
 use Rattle.pmsi_model.proofs.Boundaries.{phases-slot, machine_at-slot}
+use Rattle.pmsi_model.proofs.Changes.{post-own}
+use Rattle.pmsi_model.proofs.Owners.{nobody_below}
 use Rattle.pmsi_model.proofs.Cases.{by_test, at_core, own_core, other_core}
 use Rattle.coherence_laws.proofs.Fine.{IsWantFine, IsFine, FineCore, at_some, no_victim, fine_later, fine_status, fine_touched, fine_missed}
 use Rattle.coherence_laws.specs.Laws.{StaysCoherent}
@@ -29,12 +31,6 @@ use Rattle.coherence_laws.proofs.Acts.{post_whole, fill_whole, back_whole}
 use Rattle.coherence_laws.proofs.Phases.{phases_whole}
 
 -- ---- the action of a slot
-
-nobody_below : (x : Machine) (count line : ℕ) → nobody_owns x count line ≡ true → (d : ℕ) → d < count → mode_in x d line ≢ Some Modified
-nobody_below x zero line nobody d below owned = absurd (omega arith)
-nobody_below x (suc count) line nobody d below owned = dite (ℕ_discrete d count)
-    (λ last. let here : mode_in x count line ≡ Some Modified = subst (λ (n : ℕ). mode_in x n line ≡ Some Modified) last owned in grind arith)
-    (λ other. nobody_below x count line (grind arith) d (omega arith) owned)
 
 -- where none of the job's cores owns a line no core does
 nobody_at_all : (shape : Geometry) (slot : ℕ) (x : Machine) (line : ℕ) → IsWhole shape slot x.posted x.cores → nobody_owns x shape.cores line ≡ true → (d : ℕ) → mode_in x d line ≢ Some Modified
@@ -49,15 +45,6 @@ kind_named Write mode = grind arith
 abbrev pub WholeAfter : JobValue → Machine → ℕ → Action → Type 0
 WholeAfter job x c action = IsWhole job.shape (x.slot + 1) (after_action x c action).posted (after_action x c action).cores
 
-post_slot : (x : Machine) (c : ℕ) (kind : Kind) (line : ℕ) → (post x c kind line).slot ≡ x.slot
-unfolding post
-post_slot x c kind line = refl
-
-post_want : (x : Machine) (c : ℕ) (kind : Kind) (line : ℕ) → ((post x c kind line).cores c).want ≡ option_map (post_at x.slot) (x.cores c).want
-unfolding post
-post_want x c kind line = ap (λ (k : CoreState). k.want)
-    (own_core c (record (x.cores c) { want = option_map (post_at x.slot) (x.cores c).want; turn = WriteBackTurn }) (λ d. noted_post kind line (x.cores d)))
-
 served_now : (job : JobValue) (x : Machine) (c : ℕ) (want : Want) → (x.cores c).want ≡ Some want → is_some want.post ≡ true → requests_now job x c ≡ true → nobody_owns x job.shape.cores want.line ≡ true
 served_now job x c want is posted now = let can : can_request_for job x c (Some want) ≡ true = subst (λ o. can_request_for job x c o ≡ true) is (grind arith) in grind arith
 
@@ -70,7 +57,7 @@ post_fill_whole : (job : JobValue) (x : Machine) (c : ℕ) (want : Want) → IsW
 post_fill_whole job x c want w below is unposted free nobody =
     let y : Machine = post x c want.kind want.line in
     let v : IsWhole job.shape (x.slot + 1) y.posted y.cores = post_whole job.shape x c want w below is unposted free in
-    fill_whole job.shape (x.slot + 1) y c (post_at x.slot want) v below (post_want x c want.kind want.line ∙ ap (option_map (post_at x.slot)) is) refl
+    fill_whole job.shape (x.slot + 1) y c (post_at x.slot want) v below (ap (λ (k : CoreState). k.want) (post-own x c want.kind want.line) ∙ ap (option_map (post_at x.slot)) is) refl
     (nobody_at_all job.shape (x.slot + 1) y want.line v nobody)
 
 post_action_whole : (job : JobValue) (x : Machine) (c : ℕ) (want : Want) → IsWhole job.shape (x.slot + 1) x.posted x.cores → c < job.shape.cores → (x.cores c).want ≡ Some want → want.post ≡ None → want.victim ≡ None
@@ -140,6 +127,17 @@ pub whole_at : (job : JobValue) → IsJob job → (slot : ℕ) → IsWhole job.s
 unfolding machine_at start_of
 whole_at job is zero = start_whole job
 whole_at job is (suc slot) = slot_whole job (machine_at job slot) is.shape.some_cores is.shape.some_ways (whole_at job is slot)
+
+-- also between the phases of a slot, where the slot counts as the next
+pub phases_at : (job : JobValue) → IsJob job → (slot count : ℕ) → count ≤ job.shape.cores → IsWhole job.shape (slot + 1) (phases job count (machine_at job slot)).posted (phases job count (machine_at job slot)).cores
+phases_at job is slot count within =
+    let x : Machine = machine_at job slot in
+    let same : x.slot ≡ slot = machine_at-slot job slot in
+    subst (λ (s : ℕ). IsWhole job.shape (s + 1) (phases job count x).posted (phases job count x).cores) same
+    (phases_whole job count x is.shape.some_ways within (whole_later job.shape x.slot x.posted x.cores (whole_at job is slot)))
+
+pub phases_coherent : (job : JobValue) → IsJob job → (slot count : ℕ) → count ≤ job.shape.cores → IsCoherent job.shape (record (phases job count (machine_at job slot)) { slot = slot + 1 })
+phases_coherent job is slot count within = whole_coherent job.shape (record (phases job count (machine_at job slot)) { slot = slot + 1 }) (phases_at job is slot count within)
 
 pub stays_coherent : StaysCoherent
 stays_coherent job is slot = whole_coherent job.shape (machine_at job slot) (whole_at job is slot)

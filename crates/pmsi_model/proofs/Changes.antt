@@ -106,6 +106,15 @@ noted_in-backs kind line (Some Modified) k = refl
 pub noted-backs : (kind : Kind) (line : ℕ) (k : CoreState) → (noted_post kind line k).write_backs ≡ (if is_modified (mode_of line k.held) then append_once line k.write_backs else k.write_backs)
 noted-backs kind line k = noted_in-backs kind line (mode_of line k.held) k
 
+-- who doesn't hold the line keeps all
+noted_in-unheld : (kind : Kind) (line : ℕ) (mode : Option Mode) (k : CoreState) → mode ≡ None → noted_post_in kind line mode k ≡ k
+noted_in-unheld kind line None k none = refl
+noted_in-unheld kind line (Some Shared) k none = absurd (grind arith)
+noted_in-unheld kind line (Some Modified) k none = absurd (grind arith)
+
+pub noted-unheld : (kind : Kind) (line : ℕ) (k : CoreState) → mode_of line k.held ≡ None → noted_post kind line k ≡ k
+noted-unheld kind line k none = noted_in-unheld kind line (mode_of line k.held) k none
+
 -- ---- fill
 
 -- the core whose request is filled
