@@ -1,5 +1,5 @@
 -- How many lines a core has to write back, and how many requests there are.
-use Rattle.std.proofs.Common.{◌≡◌, ◌≢◌, ◌⊎◌, ℕ, zero, suc, ◌+◌, ◌<◌, ◌≤◌, List, [], ◌∷◌, ◌++◌, length, Option, Some, None, is_some, Bool, true, false, not, ◌==◌, ◌&&◌, ◌||◌, if◌then◌else◌, refl, sym, ap, ◌∙◌, subst, inl, inr, arith}
+use Rattle.std.proofs.Common.{◌≡◌, ◌≢◌, ℕ, zero, suc, ◌+◌, ◌<◌, ◌≤◌, List, [], ◌∷◌, ◌++◌, length, Option, Some, None, true, false, not, ◌==◌, ◌&&◌, refl, ap, ◌∙◌, arith}
 use mathlib.Core.Logic.{dite}
 use native.Mathlib.Decide.{dec_le}
 use Rattle.std.specs.List.{filter}
@@ -7,14 +7,11 @@ use Rattle.std.proofs.Common.{length-append}
 use Rattle.pmsi_model.specs.declared.job.Geometry.{Geometry}
 use Rattle.pmsi_model.specs.declared.Kind.TheVariants.{Read}
 use Rattle.pmsi_model.specs.declared.Want.{Want}
-use Rattle.pmsi_model.specs.Job.{JobValue, IsJob}
 use Rattle.pmsi_model.specs.Machine.{Request, CoreState, mode_of, has_line, has_request, request_of, removed}
 use Rattle.pmsi_model.specs.Run.{machine_at}
 use Rattle.pmsi_model.specs.Coherent.{ListsEachOnce, RequestsOnce, posted_request, victim_in}
 use Rattle.coherence_laws.specs.Laws.{WriteBacksFit}
 use Rattle.pmsi_model.proofs.Requests.{request_more, request_less, removed_none, requests_once_more, requests_once_less}
-use Rattle.pmsi_model.proofs.Cases.{by_test, at_core, own_core, other_core}
-use Rattle.coherence_laws.proofs.Fine.{IsWantFine, IsFine, FineCore, at_some, no_victim, fine_later, fine_status, fine_touched, fine_missed}
 use Rattle.coherence_laws.proofs.Whole.{IsWhole}
 use Rattle.coherence_laws.proofs.Slots.{whole_at}
 
@@ -40,7 +37,8 @@ line_count line [] once = grind arith
 line_count line (x ∷ lines) once = grind (arith, line_count line lines once.1, line_absent line lines, once.0)
 
 -- there are at most as many lines as requests
-lines_within : (rs : List Request) (lines : List ℕ) → ListsEachOnce lines → ((l : ℕ) → has_line l lines ≡ true → has_request l rs ≡ true) → length lines ≤ length rs
+lines_within : (rs : List Request) (lines : List ℕ) → ListsEachOnce lines → ((l : ℕ) → has_line l lines ≡ true → has_request l rs ≡ true)
+    → length lines ≤ length rs
 lines_within [] [] once each = omega arith
 lines_within [] (l ∷ lines) once each = absurd (grind (arith, each l))
 lines_within (r ∷ rs) lines once each =
@@ -61,7 +59,8 @@ requests_within (suc count) rs once none =
     let counts = request_count count rs once in omega arith
 
 -- where a core has none there is room for one more
-requests_below : (count : ℕ) (rs : List Request) (d : ℕ) → RequestsOnce rs → ((c : ℕ) → count ≤ c → request_of c rs ≡ None) → d < count → request_of d rs ≡ None → length rs + 1 ≤ count
+requests_below : (count : ℕ) (rs : List Request) (d : ℕ) → RequestsOnce rs → ((c : ℕ) → count ≤ c → request_of c rs ≡ None) → d < count
+    → request_of d rs ≡ None → length rs + 1 ≤ count
 requests_below count rs d once none below free =
     let r : Request = record { core = d; line = 0; kind = Read } in
     let all : length (rs ++ r ∷ []) ≤ count = requests_within count (rs ++ r ∷ []) (requests_once_more rs r once free) (λ c past. grind (arith, request_more c rs r, none c past)) in
@@ -69,11 +68,13 @@ requests_below count rs d once none below free =
 
 -- ---- the lines of a core
 
-victim_unposted : (c : ℕ) (want : Option Want) (victim : ℕ) → ((w : Want) → want ≡ Some w → w.victim ≡ Some victim → w.post ≡ None) → victim_in want ≡ Some victim → posted_request c want ≡ None
+victim_unposted : (c : ℕ) (want : Option Want) (victim : ℕ) → ((w : Want) → want ≡ Some w → w.victim ≡ Some victim → w.post ≡ None)
+    → victim_in want ≡ Some victim → posted_request c want ≡ None
 victim_unposted c None victim unposted is = refl
 victim_unposted c (Some w) victim unposted is = let none : w.post ≡ None = unposted w refl is in grind arith
 
-backs_within : (shape : Geometry) (slot : ℕ) (posted : List Request) (cores : ℕ → CoreState) (c : ℕ) (victim : Option ℕ) → IsWhole shape slot posted cores → c < shape.cores → victim_in (cores c).want ≡ victim
+backs_within : (shape : Geometry) (slot : ℕ) (posted : List Request) (cores : ℕ → CoreState) (c : ℕ) (victim : Option ℕ)
+    → IsWhole shape slot posted cores → c < shape.cores → victim_in (cores c).want ≡ victim
     → length (cores c).write_backs ≤ shape.cores
 backs_within shape slot posted cores c None w below is = let f = w.fine c in
     let lines : length (cores c).write_backs ≤ length posted = lines_within posted (cores c).write_backs f.back_once (λ l has. grind (arith, f.back_due l has)) in
@@ -90,7 +91,8 @@ none_listed : (lines : List ℕ) → ((l : ℕ) → has_line l lines ≢ true) �
 none_listed [] none = refl
 none_listed (l ∷ lines) none = absurd (none l (grind arith))
 
-pub backs_fit : (shape : Geometry) (slot : ℕ) (posted : List Request) (cores : ℕ → CoreState) (c : ℕ) → IsWhole shape slot posted cores → length (cores c).write_backs ≤ shape.cores
+pub backs_fit : (shape : Geometry) (slot : ℕ) (posted : List Request) (cores : ℕ → CoreState) (c : ℕ) → IsWhole shape slot posted cores
+    → length (cores c).write_backs ≤ shape.cores
 backs_fit shape slot posted cores c w = dite (dec_le shape.cores c)
     (λ past. let empty = none_listed (cores c).write_backs (λ l has. let owned = (w.fine c).back_owned l has in let none = ap (mode_of l) (w.outside c past) in grind arith) in omega arith)
     (λ below. backs_within shape slot posted cores c (victim_in (cores c).want) w (omega arith) refl)

@@ -1,6 +1,5 @@
 -- What holds of one core beside the posted requests, and that each change of the core keeps it.
-use Rattle.std.proofs.Common.{◌≡◌, ◌≢◌, ◌⊎◌, ℕ, zero, suc, ◌+◌, ◌<◌, ◌≤◌, List, [], ◌∷◌, ◌++◌, length, drop, Option, Some, None, is_some, is_none, Bool, true, false, not, ◌==◌, ◌&&◌, ◌||◌, if◌then◌else◌, refl, sym, ap, ◌∙◌, subst, inl, inr, arith}
-use Rattle.std.specs.Option.{option_map}
+use Rattle.std.proofs.Common.{◌≡◌, ◌≢◌, ◌⊎◌, ℕ, ◌+◌, ◌<◌, ◌≤◌, List, length, Option, Some, None, is_some, true, false, refl, subst, inl, inr, arith}
 use Rattle.pmsi_model.specs.declared.job.Geometry.{Geometry}
 use Rattle.pmsi_model.specs.declared.Access.{Access}
 use Rattle.pmsi_model.specs.declared.Kind.{Kind}
@@ -11,14 +10,11 @@ use Rattle.pmsi_model.specs.declared.Status.{Status}
 use Rattle.pmsi_model.specs.declared.Status.TheVariants.{Running}
 use Rattle.pmsi_model.specs.declared.Want.{Want}
 use Rattle.pmsi_model.specs.Geometry.{set_of}
-use Rattle.pmsi_model.specs.Machine.{CoreState, Request, mode_of, is_modified, is_shared, is_write, without, to_front, with_mode, has_line, append_once, has_request, has_write, request_of, removed}
+use Rattle.pmsi_model.specs.Machine.{CoreState, Request, mode_of, without, to_front, has_line, append_once, has_request, request_of}
 use Rattle.pmsi_model.specs.Phase.{set_lines, evicted, drop_shared, victim_of, append_victim, touched_line, permits}
-use Rattle.pmsi_model.specs.Bus.{post_at, filled_line, append_demanded, clear_victim, has_victim_for, is_core}
-use Rattle.pmsi_model.specs.Coherent.{HoldsEachOnce, ListsEachOnce, RequestsOnce, posted_request, victim_in, IsPostedBy}
-use Rattle.pmsi_model.proofs.Held.{mode_without, mode_to_front, mode_with_mode, once_without, once_to_front, once_with_mode, fewer_without, room_without, same_with_mode, count_to_front, evicted_held, evicted_none}
-use Rattle.pmsi_model.proofs.WriteBacks.{line_more, line_append_once, once_more, once_append_once}
-use Rattle.pmsi_model.proofs.Requests.{request_more, has_request_more, has_write_more, request_less, request_core, has_request_less, has_request_else, has_write_else, request_queued, write_queued, requests_once_more, requests_once_less}
-use Rattle.pmsi_model.proofs.Cases.{by_test, at_core, own_core, other_core}
+use Rattle.pmsi_model.specs.Coherent.{HoldsEachOnce, ListsEachOnce, posted_request, victim_in, IsPostedBy}
+use Rattle.pmsi_model.proofs.Held.{mode_without, mode_to_front, once_without, once_to_front, fewer_without, room_without, count_to_front, evicted_held, evicted_none}
+use Rattle.pmsi_model.proofs.WriteBacks.{line_append_once, once_append_once}
 
 -- what holds of a core's want
 pub record IsWantFine (shape : Geometry) (slot : ℕ) (held : List (ℕ × Mode)) (backs : List ℕ) (status : Status) (want : Want) : Type 0 where
@@ -57,7 +53,8 @@ none_of None never = refl
 none_of (Some n) never = absurd (never n refl)
 
 -- a posted want has no victim
-pub no_victim : (shape : Geometry) (slot : ℕ) (held : List (ℕ × Mode)) (backs : List ℕ) (status : Status) (want : Want) → IsWantFine shape slot held backs status want → is_some want.post ≡ true → want.victim ≡ None
+pub no_victim : (shape : Geometry) (slot : ℕ) (held : List (ℕ × Mode)) (backs : List ℕ) (status : Status) (want : Want)
+    → IsWantFine shape slot held backs status want → is_some want.post ≡ true → want.victim ≡ None
 no_victim shape slot held backs status want w posted = none_of want.victim (λ n is. grind (arith, w.victim_unposted n is))
 
 -- ---- a later slot
@@ -66,10 +63,16 @@ posted_later : (slot issue : ℕ) (post : Option ℕ) → IsPostedBy slot issue 
 posted_later slot issue None by = by
 posted_later slot issue (Some post) by = (by.0, grind (arith, by.1))
 
-want_later : (shape : Geometry) (slot : ℕ) (held : List (ℕ × Mode)) (backs : List ℕ) (status : Status) (want : Want) → IsWantFine shape slot held backs status want → IsWantFine shape (slot + 1) held backs status want
+want_later : (shape : Geometry) (slot : ℕ) (held : List (ℕ × Mode)) (backs : List ℕ) (status : Status) (want : Want)
+    → IsWantFine shape slot held backs status want → IsWantFine shape (slot + 1) held backs status want
 want_later shape slot held backs status want w = record {
-  read_unheld = w.read_unheld; write_unowned = w.write_unowned;
-  victim_owned = w.victim_owned; victim_waits = w.victim_waits; victim_of_set = w.victim_of_set; victim_other = w.victim_other; victim_unposted = w.victim_unposted;
+  read_unheld = w.read_unheld;
+  write_unowned = w.write_unowned;
+  victim_owned = w.victim_owned;
+  victim_waits = w.victim_waits;
+  victim_of_set = w.victim_of_set;
+  victim_other = w.victim_other;
+  victim_unposted = w.victim_unposted;
   has_room = w.has_room;
   issued = (let i = w.issued in omega arith);
   posted = posted_later slot want.issue want.post w.posted;
@@ -79,8 +82,13 @@ want_later shape slot held backs status want w = record {
 pub fine_later : (shape : Geometry) (slot : ℕ) (posted : List Request) (c : ℕ) (held : List (ℕ × Mode)) (want : Option Want) (backs : List ℕ) (status : Status)
     → IsFine shape slot posted c held want backs status → IsFine shape (slot + 1) posted c held want backs status
 fine_later shape slot posted c held want backs status f = record {
-  held_once = f.held_once; held_within = f.held_within; posted_wants = f.posted_wants; demanded_waits = f.demanded_waits;
-  back_once = f.back_once; back_owned = f.back_owned; back_due = f.back_due;
+  held_once = f.held_once;
+  held_within = f.held_within;
+  posted_wants = f.posted_wants;
+  demanded_waits = f.demanded_waits;
+  back_once = f.back_once;
+  back_owned = f.back_owned;
+  back_due = f.back_due;
   want_fine = λ w is. want_later shape slot held backs status w (f.want_fine w is);
 }
 
@@ -90,14 +98,20 @@ fine_later shape slot posted c held want backs status f = record {
 pub fine_status : (shape : Geometry) (slot : ℕ) (posted : List Request) (c : ℕ) (held : List (ℕ × Mode)) (backs : List ℕ) (status other : Status)
     → IsFine shape slot posted c held None backs status → IsFine shape slot posted c held None backs other
 fine_status shape slot posted c held backs status other f = record {
-  held_once = f.held_once; held_within = f.held_within; posted_wants = f.posted_wants; demanded_waits = f.demanded_waits;
-  back_once = f.back_once; back_owned = f.back_owned; back_due = f.back_due;
+  held_once = f.held_once;
+  held_within = f.held_within;
+  posted_wants = f.posted_wants;
+  demanded_waits = f.demanded_waits;
+  back_once = f.back_once;
+  back_owned = f.back_owned;
+  back_due = f.back_due;
   want_fine = λ w is. absurd (grind arith);
 }
 
 -- a held line goes to the front
 pub fine_front : (shape : Geometry) (slot : ℕ) (posted : List Request) (c : ℕ) (held : List (ℕ × Mode)) (backs : List ℕ) (status : Status) (line : ℕ) (mode : Mode)
-    → IsFine shape slot posted c held None backs status → mode_of line held ≡ Some mode → IsFine shape slot posted c (to_front line mode held) None backs status
+    → IsFine shape slot posted c held None backs status → mode_of line held ≡ Some mode
+    → IsFine shape slot posted c (to_front line mode held) None backs status
 fine_front shape slot posted c held backs status line mode f is = record {
   held_once = once_to_front line mode held f.held_once;
   held_within = λ l. grind (arith, count_to_front shape l line mode held, fewer_without shape l line held, room_without shape l line held, f.held_within l);
@@ -110,7 +124,8 @@ fine_front shape slot posted c held backs status line mode f is = record {
 }
 
 pub fine_touched : (shape : Geometry) (slot : ℕ) (posted : List Request) (c : ℕ) (held : List (ℕ × Mode)) (backs : List ℕ) (status : Status) (line : ℕ) (mode : Option Mode)
-    → IsFine shape slot posted c held None backs status → mode_of line held ≡ mode → IsFine shape slot posted c (touched_line mode line held) None backs status
+    → IsFine shape slot posted c held None backs status → mode_of line held ≡ mode
+    → IsFine shape slot posted c (touched_line mode line held) None backs status
 fine_touched shape slot posted c held backs status line None f is = f
 fine_touched shape slot posted c held backs status line (Some mode) f is = fine_front shape slot posted c held backs status line mode f is
 
@@ -141,19 +156,25 @@ new_want line kind slot victim access = record { line = line; kind = kind; issue
 
 -- no line is evicted
 missed_none : (shape : Geometry) (slot : ℕ) (posted : List Request) (c : ℕ) (held : List (ℕ × Mode)) (backs : List ℕ) (status : Status) (line : ℕ) (kind : Kind) (access : Access)
-    → IsFine shape (slot + 1) posted c held None backs status → status ≡ Running → permits kind (mode_of line held) ≡ false → 1 ≤ shape.ways → evicted shape line held ≡ None
+    → IsFine shape (slot + 1) posted c held None backs status → status ≡ Running → permits kind (mode_of line held) ≡ false → 1 ≤ shape.ways
+    → evicted shape line held ≡ None
     → IsFine shape (slot + 1) posted c held (Some (new_want line kind slot None access)) backs status
 missed_none shape slot posted c held backs status line kind access f runs denied some gone = record {
-  held_once = f.held_once; held_within = f.held_within; posted_wants = f.posted_wants; demanded_waits = f.demanded_waits;
-  back_once = f.back_once; back_owned = f.back_owned;
+  held_once = f.held_once;
+  held_within = f.held_within;
+  posted_wants = f.posted_wants;
+  demanded_waits = f.demanded_waits;
+  back_once = f.back_once;
+  back_owned = f.back_owned;
   back_due = λ l has. grind (arith, f.back_due l has);
   want_fine = λ w is. subst (IsWantFine shape (slot + 1) held backs status) (grind arith)
-    (want_new shape slot line kind access None held backs status denied runs (λ v none. absurd (grind arith)) (grind (arith, evicted_none shape line held some (f.held_within line) gone)));
+      (want_new shape slot line kind access None held backs status denied runs (λ v none. absurd (grind arith)) (grind (arith, evicted_none shape line held some (f.held_within line) gone)));
 }
 
 -- a shared line is dropped
 missed_shared : (shape : Geometry) (slot : ℕ) (posted : List Request) (c : ℕ) (held : List (ℕ × Mode)) (backs : List ℕ) (status : Status) (line : ℕ) (kind : Kind) (access : Access) (gone : ℕ)
-    → IsFine shape (slot + 1) posted c held None backs status → status ≡ Running → permits kind (mode_of line held) ≡ false → evicted shape line held ≡ Some (gone, Shared)
+    → IsFine shape (slot + 1) posted c held None backs status → status ≡ Running → permits kind (mode_of line held) ≡ false
+    → evicted shape line held ≡ Some (gone, Shared)
     → IsFine shape (slot + 1) posted c (without gone held) (Some (new_want line kind slot None access)) backs status
 missed_shared shape slot posted c held backs status line kind access gone f runs denied is = let e = evicted_held shape line held (gone, Shared) f.held_once is in record {
   held_once = once_without gone held f.held_once;
@@ -164,28 +185,32 @@ missed_shared shape slot posted c held backs status line kind access gone f runs
   back_owned = λ l has. grind (arith, mode_without l gone held, f.back_owned l has, e.0);
   back_due = λ l has. grind (arith, f.back_due l has);
   want_fine = λ w same. subst (IsWantFine shape (slot + 1) (without gone held) backs status) (grind arith)
-    (want_new shape slot line kind access None (without gone held) backs status (grind (arith, mode_without line gone held, e.2)) runs (λ v none. absurd (grind arith))
-    (inr (inl (grind (arith, room_without shape line gone held, f.held_within line, e.0, e.1)))));
+      (want_new shape slot line kind access None (without gone held) backs status (grind (arith, mode_without line gone held, e.2)) runs (λ v none. absurd (grind arith))
+      (inr (inl (grind (arith, room_without shape line gone held, f.held_within line, e.0, e.1)))));
 }
 
 -- a modified line becomes the victim
 missed_modified : (shape : Geometry) (slot : ℕ) (posted : List Request) (c : ℕ) (held : List (ℕ × Mode)) (backs : List ℕ) (status : Status) (line : ℕ) (kind : Kind) (access : Access) (gone : ℕ)
-    → IsFine shape (slot + 1) posted c held None backs status → status ≡ Running → permits kind (mode_of line held) ≡ false → evicted shape line held ≡ Some (gone, Modified)
+    → IsFine shape (slot + 1) posted c held None backs status → status ≡ Running → permits kind (mode_of line held) ≡ false
+    → evicted shape line held ≡ Some (gone, Modified)
     → IsFine shape (slot + 1) posted c held (Some (new_want line kind slot (Some gone) access)) (append_once gone backs) status
 missed_modified shape slot posted c held backs status line kind access gone f runs denied is = let e = evicted_held shape line held (gone, Modified) f.held_once is in record {
-  held_once = f.held_once; held_within = f.held_within; posted_wants = f.posted_wants;
+  held_once = f.held_once;
+  held_within = f.held_within;
+  posted_wants = f.posted_wants;
   demanded_waits = λ l owned asked. grind (arith, line_append_once l gone backs, f.demanded_waits l owned asked);
   back_once = once_append_once gone backs f.back_once;
   back_owned = λ l has. grind (arith, line_append_once l gone backs, f.back_owned l, e.0);
   back_due = λ l has. grind (arith, line_append_once l gone backs, f.back_due l);
   want_fine = λ w same. subst (IsWantFine shape (slot + 1) held (append_once gone backs) status) (grind arith)
-    (want_new shape slot line kind access (Some gone) held (append_once gone backs) status denied runs
-    (λ v which. (grind (arith, e.0), grind (arith, line_append_once v gone backs), grind (arith, e.1), grind (arith, e.0, e.2)))
-    (inr (inr (grind arith))));
+      (want_new shape slot line kind access (Some gone) held (append_once gone backs) status denied runs
+      (λ v which. (grind (arith, e.0), grind (arith, line_append_once v gone backs), grind (arith, e.1), grind (arith, e.0, e.2)))
+      (inr (inr (grind arith))));
 }
 
 pub fine_missed : (shape : Geometry) (slot : ℕ) (posted : List Request) (c : ℕ) (held : List (ℕ × Mode)) (backs : List ℕ) (status : Status) (line : ℕ) (kind : Kind) (access : Access) (gone : Option (ℕ × Mode))
-    → IsFine shape (slot + 1) posted c held None backs status → status ≡ Running → permits kind (mode_of line held) ≡ false → 1 ≤ shape.ways → evicted shape line held ≡ gone
+    → IsFine shape (slot + 1) posted c held None backs status → status ≡ Running → permits kind (mode_of line held) ≡ false → 1 ≤ shape.ways
+    → evicted shape line held ≡ gone
     → IsFine shape (slot + 1) posted c (drop_shared gone held) (Some (new_want line kind slot (victim_of gone) access)) (append_victim (victim_of gone) backs) status
 fine_missed shape slot posted c held backs status line kind access None f runs denied some is = missed_none shape slot posted c held backs status line kind access f runs denied some is
 fine_missed shape slot posted c held backs status line kind access (Some (gone, Shared)) f runs denied some is = missed_shared shape slot posted c held backs status line kind access gone f runs denied is

@@ -1,25 +1,20 @@
 -- The phases of the cores keep the facts of all cores.
-use Rattle.std.proofs.Common.{◌≡◌, ◌≢◌, ◌⊎◌, ℕ, zero, suc, ◌+◌, ◌/◌, ◌<◌, ◌≤◌, List, [], ◌∷◌, ◌++◌, length, Option, Some, None, is_some, is_none, Bool, true, false, not, ◌==◌, ◌&&◌, ◌||◌, if◌then◌else◌, refl, sym, ap, ◌∙◌, subst, inl, inr, arith}
+use Rattle.std.proofs.Common.{◌≡◌, ◌⊎◌, ℕ, zero, suc, ◌+◌, ◌<◌, ◌≤◌, List, Option, Some, None, true, false, refl, sym, subst, inl, arith}
 use Rattle.pmsi_model.specs.declared.job.Geometry.{Geometry}
 use Rattle.pmsi_model.specs.declared.Access.{Access}
-use Rattle.pmsi_model.specs.declared.Halt.{Halt}
-use Rattle.pmsi_model.specs.declared.Kind.{Kind}
-use Rattle.pmsi_model.specs.declared.Kind.TheVariants.{Read, Write}
 use Rattle.pmsi_model.specs.declared.Mode.{Mode}
 use Rattle.pmsi_model.specs.declared.Mode.TheVariants.{Shared, Modified}
-use Rattle.pmsi_model.specs.declared.Status.{Status}
 use Rattle.pmsi_model.specs.declared.Status.TheVariants.{Running, Halted}
-use Rattle.pmsi_model.specs.declared.Want.{Want}
 use Rattle.pmsi_model.specs.Geometry.{line_of}
 use Rattle.pmsi_model.specs.Job.{JobValue, text_of}
 use Rattle.pmsi_model.specs.Access.{kind_of}
 use Rattle.pmsi_model.specs.Effect.{Effect, Next, Memory, Stop}
-use Rattle.pmsi_model.specs.Machine.{Machine, Request, CoreState, mode_of, without, to_front}
-use Rattle.pmsi_model.specs.Phase.{Context, can_run, is_running, after_effect, effect_at, accessed, missed, halted, is_permitted, permits, evicted, drop_shared, victim_of, append_victim, touched_line, instruction, instructions, context_of, phase, phases}
+use Rattle.pmsi_model.specs.Machine.{Machine, Request, CoreState, mode_of}
+use Rattle.pmsi_model.specs.Phase.{Context, can_run, after_effect, effect_at, accessed, missed, is_permitted, evicted, drop_shared, touched_line, instruction, instructions, context_of, phase, phases}
 use Rattle.pmsi_model.proofs.Held.{mode_without, mode_to_front}
 use Rattle.pmsi_model.proofs.Boundaries.{phases-slot}
-use Rattle.pmsi_model.proofs.Cases.{by_test, at_core, own_core, other_core}
-use Rattle.coherence_laws.proofs.Fine.{IsWantFine, IsFine, FineCore, at_some, no_victim, fine_later, fine_status, fine_touched, fine_missed}
+use Rattle.pmsi_model.proofs.Cases.{by_test}
+use Rattle.coherence_laws.proofs.Fine.{IsFine, FineCore, fine_status, fine_touched, fine_missed}
 use Rattle.coherence_laws.proofs.Whole.{IsWhole, IsLess, whole_less}
 
 -- a core keeps its facts, and what it holds only gets less
@@ -30,16 +25,19 @@ pub record IsKept (shape : Geometry) (slot : ℕ) (posted : List Request) (c : �
 runs_of : (k : CoreState) → can_run k ≡ true → (k.status ≡ Running) × (k.want ≡ None)
 runs_of k can = (grind arith, grind arith)
 
-touched_less : (line l : ℕ) (mode : Option Mode) (held : List (ℕ × Mode)) → mode_of line held ≡ mode → mode_of l (touched_line mode line held) ≡ mode_of l held
+touched_less : (line l : ℕ) (mode : Option Mode) (held : List (ℕ × Mode)) → mode_of line held ≡ mode
+    → mode_of l (touched_line mode line held) ≡ mode_of l held
 touched_less line l None held is = refl
 touched_less line l (Some mode) held is = grind (arith, mode_to_front l line mode held)
 
-dropped_less : (l : ℕ) (gone : Option (ℕ × Mode)) (held : List (ℕ × Mode)) → (mode_of l (drop_shared gone held) ≡ mode_of l held) ⊎ (mode_of l (drop_shared gone held) ≡ None)
+dropped_less : (l : ℕ) (gone : Option (ℕ × Mode)) (held : List (ℕ × Mode))
+    → (mode_of l (drop_shared gone held) ≡ mode_of l held) ⊎ (mode_of l (drop_shared gone held) ≡ None)
 dropped_less l None held = inl refl
 dropped_less l (Some (gone, Shared)) held = grind (arith, mode_without l gone held)
 dropped_less l (Some (gone, Modified)) held = inl refl
 
-accessed_kept : (shape : Geometry) (slot : ℕ) (posted : List Request) (c : ℕ) (access : Access) (x : Context) → FineCore shape (slot + 1) posted c x.core → can_run x.core ≡ true
+accessed_kept : (shape : Geometry) (slot : ℕ) (posted : List Request) (c : ℕ) (access : Access) (x : Context)
+    → FineCore shape (slot + 1) posted c x.core → can_run x.core ≡ true
     → IsKept shape (slot + 1) posted c x.core (accessed shape access x).core
 accessed_kept shape slot posted c access x f can = let line : ℕ = line_of shape access.address in let k : CoreState = x.core in let r = runs_of k can in record {
   fine = subst (λ w. IsFine shape (slot + 1) posted c (touched_line (mode_of line k.held) line k.held) w k.write_backs k.status) (sym r.1)
@@ -47,7 +45,8 @@ accessed_kept shape slot posted c access x f can = let line : ℕ = line_of shap
   less = λ l. inl (touched_less line l (mode_of line k.held) k.held refl);
 }
 
-missed_kept : (shape : Geometry) (slot : ℕ) (posted : List Request) (c : ℕ) (access : Access) (k : CoreState) → 1 ≤ shape.ways → FineCore shape (slot + 1) posted c k → can_run k ≡ true → is_permitted shape access k ≡ false
+missed_kept : (shape : Geometry) (slot : ℕ) (posted : List Request) (c : ℕ) (access : Access) (k : CoreState) → 1 ≤ shape.ways
+    → FineCore shape (slot + 1) posted c k → can_run k ≡ true → is_permitted shape access k ≡ false
     → IsKept shape (slot + 1) posted c k (missed shape slot access k)
 missed_kept shape slot posted c access k some f can denied = let line : ℕ = line_of shape access.address in let r = runs_of k can in record {
   fine = fine_missed shape slot posted c k.held k.write_backs k.status line (kind_of access.op) access (evicted shape line k.held)
@@ -55,7 +54,8 @@ missed_kept shape slot posted c access k some f can denied = let line : ℕ = li
   less = λ l. dropped_less l (evicted shape line k.held) k.held;
 }
 
-effect_kept : (shape : Geometry) (slot : ℕ) (posted : List Request) (c : ℕ) (e : Effect) (x : Context) → 1 ≤ shape.ways → FineCore shape (slot + 1) posted c x.core → can_run x.core ≡ true
+effect_kept : (shape : Geometry) (slot : ℕ) (posted : List Request) (c : ℕ) (e : Effect) (x : Context) → 1 ≤ shape.ways
+    → FineCore shape (slot + 1) posted c x.core → can_run x.core ≡ true
     → IsKept shape (slot + 1) posted c x.core (after_effect shape slot e x).core
 effect_kept shape slot posted c (Next regs pc) x some f can = record { fine = f; less = λ l. inl refl }
 effect_kept shape slot posted c (Stop halt) x some f can = let k : CoreState = x.core in let r = runs_of k can in record {
@@ -68,7 +68,8 @@ effect_kept shape slot posted c (Memory access) x some f can =
     (λ granted. accessed_kept shape slot posted c access x f can)
     (λ denied. missed_kept shape slot posted c access x.core some f can denied)
 
-pub instruction_kept : (shape : Geometry) (slot : ℕ) (text : List ℕ) (posted : List Request) (c : ℕ) (x : Context) → 1 ≤ shape.ways → FineCore shape (slot + 1) posted c x.core
+pub instruction_kept : (shape : Geometry) (slot : ℕ) (text : List ℕ) (posted : List Request) (c : ℕ) (x : Context) → 1 ≤ shape.ways
+    → FineCore shape (slot + 1) posted c x.core
     → IsKept shape (slot + 1) posted c x.core (instruction shape slot text x).core
 unfolding instruction
 instruction_kept shape slot text posted c x some f =
@@ -79,7 +80,8 @@ instruction_kept shape slot text posted c x some f =
 less_less : (k j i : CoreState) → IsLess k j → IsLess j i → IsLess k i
 less_less k j i first second l = grind (arith, first l, second l)
 
-pub instructions_kept : (shape : Geometry) (slot : ℕ) (text : List ℕ) (posted : List Request) (c : ℕ) (count : ℕ) (x : Context) → 1 ≤ shape.ways → FineCore shape (slot + 1) posted c x.core
+pub instructions_kept : (shape : Geometry) (slot : ℕ) (text : List ℕ) (posted : List Request) (c : ℕ) (count : ℕ) (x : Context)
+    → 1 ≤ shape.ways → FineCore shape (slot + 1) posted c x.core
     → IsKept shape (slot + 1) posted c x.core (instructions shape slot text count x).core
 unfolding instructions
 instructions_kept shape slot text posted c zero x some f = record { fine = f; less = λ l. inl refl }
@@ -89,7 +91,8 @@ instructions_kept shape slot text posted c (suc count) x some f =
     let last = instruction_kept shape slot text posted c y some before.fine in
     record { fine = last.fine; less = less_less x.core y.core (instruction shape slot text y).core before.less last.less }
 
-pub phase_whole : (job : JobValue) (c : ℕ) (x : Machine) → 1 ≤ job.shape.ways → c < job.shape.cores → IsWhole job.shape (x.slot + 1) x.posted x.cores
+pub phase_whole : (job : JobValue) (c : ℕ) (x : Machine) → 1 ≤ job.shape.ways → c < job.shape.cores
+    → IsWhole job.shape (x.slot + 1) x.posted x.cores
     → IsWhole job.shape (x.slot + 1) (phase job c x).posted (phase job c x).cores
 unfolding phase
 phase_whole job c x some below w =
@@ -97,7 +100,8 @@ phase_whole job c x some below w =
     let kept : IsKept job.shape (x.slot + 1) x.posted c (x.cores c) k = instructions_kept job.shape x.slot (text_of job c) x.posted c job.shape.quantum (context_of x c) some (w.fine c) in
     whole_less job.shape (x.slot + 1) x.posted x.cores c k w below kept.fine kept.less
 
-pub phases_whole : (job : JobValue) (count : ℕ) (x : Machine) → 1 ≤ job.shape.ways → count ≤ job.shape.cores → IsWhole job.shape (x.slot + 1) x.posted x.cores
+pub phases_whole : (job : JobValue) (count : ℕ) (x : Machine) → 1 ≤ job.shape.ways → count ≤ job.shape.cores
+    → IsWhole job.shape (x.slot + 1) x.posted x.cores
     → IsWhole job.shape (x.slot + 1) (phases job count x).posted (phases job count x).cores
 unfolding phases
 phases_whole job zero x some within w = w

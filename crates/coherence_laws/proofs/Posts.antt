@@ -1,6 +1,5 @@
 -- What the post of a request does to the facts of each core, and what the fill of another core's does.
-use Rattle.std.proofs.Common.{◌≡◌, ◌≢◌, ◌⊎◌, ℕ, zero, suc, ◌+◌, ◌<◌, ◌≤◌, List, [], ◌∷◌, ◌++◌, length, drop, Option, Some, None, is_some, is_none, Bool, true, false, not, ◌==◌, ◌&&◌, ◌||◌, if◌then◌else◌, refl, sym, ap, ◌∙◌, subst, inl, inr, arith}
-use Rattle.std.specs.Option.{option_map}
+use Rattle.std.proofs.Common.{◌≡◌, ◌≢◌, ◌⊎◌, ℕ, ◌+◌, ◌<◌, ◌≤◌, List, [], ◌∷◌, ◌++◌, length, Option, Some, None, refl, arith}
 use Rattle.pmsi_model.specs.declared.job.Geometry.{Geometry}
 use Rattle.pmsi_model.specs.declared.Kind.{Kind}
 use Rattle.pmsi_model.specs.declared.Kind.TheVariants.{Read, Write}
@@ -8,22 +7,21 @@ use Rattle.pmsi_model.specs.declared.Mode.{Mode}
 use Rattle.pmsi_model.specs.declared.Mode.TheVariants.{Shared, Modified}
 use Rattle.pmsi_model.specs.declared.Status.{Status}
 use Rattle.pmsi_model.specs.declared.Want.{Want}
-use Rattle.pmsi_model.specs.Geometry.{set_of}
-use Rattle.pmsi_model.specs.Machine.{Request, CoreState, mode_of, is_write, without, to_front, with_mode, has_line, append_once, has_request, has_write, request_of, removed}
+use Rattle.pmsi_model.specs.Machine.{Request, CoreState, mode_of, without, append_once, request_of, removed}
 use Rattle.pmsi_model.specs.Phase.{set_lines}
-use Rattle.pmsi_model.specs.Bus.{post_at, noted_post_in, filled_line, append_demanded, clear_victim, has_victim_for, is_core}
-use Rattle.pmsi_model.specs.Coherent.{HoldsEachOnce, ListsEachOnce, RequestsOnce, posted_request, victim_in, IsPostedBy}
-use Rattle.pmsi_model.proofs.Held.{mode_without, mode_to_front, mode_with_mode, once_without, once_to_front, once_with_mode, fewer_without, room_without, same_with_mode, count_to_front}
-use Rattle.pmsi_model.proofs.WriteBacks.{line_more, line_append_once, once_more, once_append_once}
-use Rattle.pmsi_model.proofs.Requests.{request_more, has_request_more, request_less, has_request_less, has_request_else, request_queued}
-use Rattle.pmsi_model.proofs.Cases.{by_test, at_core, own_core, other_core}
-use Rattle.coherence_laws.proofs.Fine.{IsWantFine, IsFine, FineCore, at_some, no_victim, fine_later, fine_status, fine_touched, fine_missed}
+use Rattle.pmsi_model.specs.Bus.{post_at, noted_post_in}
+use Rattle.pmsi_model.specs.Coherent.{RequestsOnce}
+use Rattle.pmsi_model.proofs.Held.{mode_without, once_without, fewer_without, room_without}
+use Rattle.pmsi_model.proofs.WriteBacks.{line_append_once, once_append_once}
+use Rattle.pmsi_model.proofs.Requests.{request_more, has_request_more, request_less, has_request_less, has_request_else}
+use Rattle.coherence_laws.proofs.Fine.{IsWantFine, IsFine, FineCore, at_some}
 
 -- ---- another core posts
 
 -- who doesn't own the line
 fine_posted_else : (shape : Geometry) (slot : ℕ) (posted : List Request) (d : ℕ) (held : List (ℕ × Mode)) (want : Option Want) (backs : List ℕ) (status : Status) (r : Request)
-    → IsFine shape slot posted d held want backs status → r.core ≢ d → mode_of r.line held ≢ Some Modified → IsFine shape slot (posted ++ r ∷ []) d held want backs status
+    → IsFine shape slot posted d held want backs status → r.core ≢ d → mode_of r.line held ≢ Some Modified
+    → IsFine shape slot (posted ++ r ∷ []) d held want backs status
 fine_posted_else shape slot posted d held want backs status r f other unowned = record {
   held_once = f.held_once;
   held_within = f.held_within;
@@ -35,12 +33,14 @@ fine_posted_else shape slot posted d held want backs status r f other unowned = 
   want_fine = f.want_fine;
 }
 
-room_left : (shape : Geometry) (line other : ℕ) (held : List (ℕ × Mode)) (victim : Option ℕ) → length (set_lines shape other held) ≤ shape.ways → mode_of line held ≢ None
+room_left : (shape : Geometry) (line other : ℕ) (held : List (ℕ × Mode)) (victim : Option ℕ)
+    → length (set_lines shape other held) ≤ shape.ways → mode_of line held ≢ None
     → ((mode_of other held ≢ None) ⊎ ((length (set_lines shape other held) < shape.ways) ⊎ (victim ≢ None)))
     → ((mode_of other (without line held) ≢ None) ⊎ ((length (set_lines shape other (without line held)) < shape.ways) ⊎ (victim ≢ None)))
 room_left shape line other held victim within here room = grind (arith, mode_without other line held, fewer_without shape other line held, room_without shape other line held)
 
-want_without : (shape : Geometry) (slot line : ℕ) (held : List (ℕ × Mode)) (backs : List ℕ) (status : Status) (want : Want) → IsWantFine shape slot held backs status want → mode_of line held ≡ Some Shared
+want_without : (shape : Geometry) (slot line : ℕ) (held : List (ℕ × Mode)) (backs : List ℕ) (status : Status) (want : Want)
+    → IsWantFine shape slot held backs status want → mode_of line held ≡ Some Shared
     → length (set_lines shape want.line held) ≤ shape.ways → IsWantFine shape slot (without line held) backs status want
 want_without shape slot line held backs status want w shared within = record {
   read_unheld = λ read. grind (arith, mode_without want.line line held, w.read_unheld read);
@@ -58,7 +58,8 @@ want_without shape slot line held backs status want w shared within = record {
 
 -- a shared copy is lost
 fine_without : (shape : Geometry) (slot : ℕ) (posted : List Request) (d : ℕ) (held : List (ℕ × Mode)) (want : Option Want) (backs : List ℕ) (status : Status) (line : ℕ)
-    → IsFine shape slot posted d held want backs status → mode_of line held ≡ Some Shared → IsFine shape slot posted d (without line held) want backs status
+    → IsFine shape slot posted d held want backs status → mode_of line held ≡ Some Shared
+    → IsFine shape slot posted d (without line held) want backs status
 fine_without shape slot posted d held want backs status line f shared = record {
   held_once = once_without line held f.held_once;
   held_within = λ l. grind (arith, fewer_without shape l line held, f.held_within l);
@@ -70,19 +71,27 @@ fine_without shape slot posted d held want backs status line f shared = record {
   want_fine = λ w is. want_without shape slot line held backs status w (f.want_fine w is) shared (f.held_within w.line);
 }
 
-want_longer : (shape : Geometry) (slot line : ℕ) (held : List (ℕ × Mode)) (backs : List ℕ) (status : Status) (want : Want) → IsWantFine shape slot held backs status want
+want_longer : (shape : Geometry) (slot line : ℕ) (held : List (ℕ × Mode)) (backs : List ℕ) (status : Status) (want : Want)
+    → IsWantFine shape slot held backs status want
     → IsWantFine shape slot held (append_once line backs) status want
 want_longer shape slot line held backs status want w = record {
-  read_unheld = w.read_unheld; write_unowned = w.write_unowned;
+  read_unheld = w.read_unheld;
+  write_unowned = w.write_unowned;
   victim_owned = w.victim_owned;
   victim_waits = λ victim is. grind (arith, line_append_once victim line backs, w.victim_waits victim is);
-  victim_of_set = w.victim_of_set; victim_other = w.victim_other; victim_unposted = w.victim_unposted;
-  has_room = w.has_room; issued = w.issued; posted = w.posted; runs = w.runs;
+  victim_of_set = w.victim_of_set;
+  victim_other = w.victim_other;
+  victim_unposted = w.victim_unposted;
+  has_room = w.has_room;
+  issued = w.issued;
+  posted = w.posted;
+  runs = w.runs;
 }
 
 -- who owns the line has to write it back
 fine_posted_owner : (shape : Geometry) (slot : ℕ) (posted : List Request) (d : ℕ) (held : List (ℕ × Mode)) (want : Option Want) (backs : List ℕ) (status : Status) (r : Request)
-    → IsFine shape slot posted d held want backs status → r.core ≢ d → mode_of r.line held ≡ Some Modified → IsFine shape slot (posted ++ r ∷ []) d held want (append_once r.line backs) status
+    → IsFine shape slot posted d held want backs status → r.core ≢ d → mode_of r.line held ≡ Some Modified
+    → IsFine shape slot (posted ++ r ∷ []) d held want (append_once r.line backs) status
 fine_posted_owner shape slot posted d held want backs status r f other owner = record {
   held_once = f.held_once;
   held_within = f.held_within;
@@ -95,7 +104,8 @@ fine_posted_owner shape slot posted d held want backs status r f other owner = r
 }
 
 pub fine_noted : (shape : Geometry) (slot : ℕ) (posted : List Request) (d : ℕ) (k : CoreState) (r : Request) (kind : Kind) (mode : Option Mode)
-    → FineCore shape slot posted d k → r.core ≢ d → mode_of r.line k.held ≡ mode → FineCore shape slot (posted ++ r ∷ []) d (noted_post_in kind r.line mode k)
+    → FineCore shape slot posted d k → r.core ≢ d → mode_of r.line k.held ≡ mode
+    → FineCore shape slot (posted ++ r ∷ []) d (noted_post_in kind r.line mode k)
 fine_noted shape slot posted d k r kind None f other is = fine_posted_else shape slot posted d k.held k.want k.write_backs k.status r f other (λ owned. grind arith)
 fine_noted shape slot posted d k r Read (Some Shared) f other is = fine_posted_else shape slot posted d k.held k.want k.write_backs k.status r f other (λ owned. grind arith)
 fine_noted shape slot posted d k r Write (Some Shared) f other is =
@@ -105,11 +115,16 @@ fine_noted shape slot posted d k r kind (Some Modified) f other is = fine_posted
 
 -- ---- the core itself posts
 
-want_post : (shape : Geometry) (slot : ℕ) (held : List (ℕ × Mode)) (backs : List ℕ) (status : Status) (want : Want) → IsWantFine shape (slot + 1) held backs status want → want.victim ≡ None
+want_post : (shape : Geometry) (slot : ℕ) (held : List (ℕ × Mode)) (backs : List ℕ) (status : Status) (want : Want)
+    → IsWantFine shape (slot + 1) held backs status want → want.victim ≡ None
     → IsWantFine shape (slot + 1) held backs status (post_at slot want)
 want_post shape slot held backs status want w free = record {
-  read_unheld = w.read_unheld; write_unowned = w.write_unowned;
-  victim_owned = w.victim_owned; victim_waits = w.victim_waits; victim_of_set = w.victim_of_set; victim_other = w.victim_other;
+  read_unheld = w.read_unheld;
+  write_unowned = w.write_unowned;
+  victim_owned = w.victim_owned;
+  victim_waits = w.victim_waits;
+  victim_of_set = w.victim_of_set;
+  victim_other = w.victim_other;
   victim_unposted = λ victim is. absurd (grind arith);
   has_room = w.has_room;
   issued = w.issued;
@@ -118,7 +133,8 @@ want_post shape slot held backs status want w free = record {
 }
 
 pub fine_post : (shape : Geometry) (slot : ℕ) (posted : List Request) (c : ℕ) (held : List (ℕ × Mode)) (want : Want) (backs : List ℕ) (status : Status) (r : Request)
-    → IsFine shape (slot + 1) posted c held (Some want) backs status → want.post ≡ None → want.victim ≡ None → r ≡ record { core = c; line = want.line; kind = want.kind }
+    → IsFine shape (slot + 1) posted c held (Some want) backs status → want.post ≡ None → want.victim ≡ None
+    → r ≡ record { core = c; line = want.line; kind = want.kind }
     → IsFine shape (slot + 1) (posted ++ r ∷ []) c held (Some (post_at slot want)) backs status
 fine_post shape slot posted c held want backs status r f unposted free mine = let w = f.want_fine want refl in record {
   held_once = f.held_once;
@@ -134,7 +150,8 @@ fine_post shape slot posted c held want backs status r f unposted free mine = le
 -- ---- another core's request is filled
 
 pub fine_rest : (shape : Geometry) (slot : ℕ) (posted : List Request) (c d : ℕ) (held : List (ℕ × Mode)) (want : Option Want) (backs : List ℕ) (status : Status) (r : Request)
-    → IsFine shape slot posted d held want backs status → d ≢ c → RequestsOnce posted → request_of c posted ≡ Some r → mode_of r.line held ≢ Some Modified
+    → IsFine shape slot posted d held want backs status → d ≢ c → RequestsOnce posted → request_of c posted ≡ Some r
+    → mode_of r.line held ≢ Some Modified
     → IsFine shape slot (removed c posted) d held want backs status
 fine_rest shape slot posted c d held want backs status r f other once is unowned = record {
   held_once = f.held_once;

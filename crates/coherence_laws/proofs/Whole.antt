@@ -1,25 +1,15 @@
 -- The facts of all cores together, and that each change of the machine keeps them.
-use Rattle.std.proofs.Common.{◌≡◌, ◌≢◌, ◌⊎◌, ℕ, zero, suc, ◌+◌, ◌<◌, ◌≤◌, List, [], ◌∷◌, ◌++◌, length, drop, Option, Some, None, is_some, is_none, Bool, true, false, not, ◌==◌, ◌&&◌, ◌||◌, if◌then◌else◌, refl, sym, ap, ◌∙◌, subst, inl, inr, arith}
-use mathlib.Core.Logic.{dite}
-use native.Mathlib.Decide.{ℕ_discrete, dec_le}
-use Rattle.std.specs.Option.{option_map}
+use Rattle.std.proofs.Common.{◌≡◌, ◌≢◌, ◌⊎◌, ℕ, ◌+◌, ◌<◌, ◌≤◌, List, [], Option, Some, None, false, ◌==◌, if◌then◌else◌, refl, sym, ap, ◌∙◌, inl, arith}
 use Rattle.pmsi_model.specs.declared.job.Geometry.{Geometry}
-use Rattle.pmsi_model.specs.declared.Kind.{Kind}
 use Rattle.pmsi_model.specs.declared.Kind.TheVariants.{Read, Write}
 use Rattle.pmsi_model.specs.declared.Mode.{Mode}
 use Rattle.pmsi_model.specs.declared.Mode.TheVariants.{Shared, Modified}
-use Rattle.pmsi_model.specs.declared.Status.{Status}
 use Rattle.pmsi_model.specs.declared.Want.{Want}
-use Rattle.pmsi_model.specs.Machine.{Machine, Request, CoreState, with_core, mode_of, mode_in, owns, nobody_owns, is_write, without, to_front, with_mode, has_line, append_once, has_request, has_write, request_of, removed}
-use Rattle.pmsi_model.specs.Bus.{post, post_at, noted_post_in, noted_post, fill, fill_for, filled_line, append_demanded, write_back, clear_victim, has_victim_for, keeps_line}
-use Rattle.pmsi_model.specs.Coherent.{RequestsOnce, posted_request, IsCoherent}
-use Rattle.pmsi_model.proofs.Held.{mode_without, mode_to_front, mode_with_mode}
-use Rattle.pmsi_model.proofs.Requests.{request_more, request_less, write_queued, requests_once_more, requests_once_less}
-use Rattle.pmsi_model.proofs.Cases.{by_test, at_core, own_core, other_core}
-use Rattle.coherence_laws.proofs.Fine.{IsWantFine, IsFine, FineCore, at_some, no_victim, fine_later, fine_status, fine_touched, fine_missed}
-use Rattle.coherence_laws.proofs.Posts.{fine_noted, fine_post, fine_rest}
-use Rattle.coherence_laws.proofs.Fills.{fine_fill}
-use Rattle.coherence_laws.proofs.WriteBacks.{fine_back}
+use Rattle.pmsi_model.specs.Machine.{Machine, Request, CoreState, mode_of, mode_in, has_write, request_of}
+use Rattle.pmsi_model.specs.Coherent.{RequestsOnce, IsCoherent}
+use Rattle.pmsi_model.proofs.Requests.{write_queued}
+use Rattle.pmsi_model.proofs.Cases.{at_core}
+use Rattle.coherence_laws.proofs.Fine.{FineCore, fine_later}
 
 abbrev pub OwnedAlone : (ℕ → CoreState) → Type 0
 OwnedAlone cores = (c d line : ℕ) → mode_of line (cores c).held ≡ Some Modified → d ≢ c → mode_of line (cores d).held ≡ None
@@ -36,10 +26,12 @@ pub record IsWhole (shape : Geometry) (slot : ℕ) (posted : List Request) (core
   pub outside : (c : ℕ) → shape.cores ≤ c → (cores c).held ≡ []
   pub idle : (c : ℕ) → shape.cores ≤ c → (cores c).want ≡ None
 
-unowned : (want : Want) (mode : Option Mode) → (want.kind ≡ Read → mode ≡ None) → (want.kind ≡ Write → mode ≢ Some Modified) → mode ≢ Some Modified
+unowned : (want : Want) (mode : Option Mode) → (want.kind ≡ Read → mode ≡ None) → (want.kind ≡ Write → mode ≢ Some Modified)
+    → mode ≢ Some Modified
 unowned want mode read write is = grind (arith, read, write)
 
-posted_unowned : (shape : Geometry) (x : Machine) → IsWhole shape x.slot x.posted x.cores → (c : ℕ) (r : Request) (want : Option Want) → (x.cores c).want ≡ want → request_of c x.posted ≡ Some r → mode_in x c r.line ≢ Some Modified
+posted_unowned : (shape : Geometry) (x : Machine) → IsWhole shape x.slot x.posted x.cores → (c : ℕ) (r : Request) (want : Option Want)
+    → (x.cores c).want ≡ want → request_of c x.posted ≡ Some r → mode_in x c r.line ≢ Some Modified
 posted_unowned shape x w c r None wants is owned = grind (arith, (w.fine c).posted_wants)
 posted_unowned shape x w c r (Some want) wants is owned = let f = (w.fine c).want_fine want wants in
     let line : r.line ≡ want.line = grind (arith, (w.fine c).posted_wants) in
@@ -71,41 +63,52 @@ whole_coherent shape x w = record {
   want_runs = λ c want is. ((w.fine c).want_fine want is).runs;
 }
 
-pub whole_later : (shape : Geometry) (slot : ℕ) (posted : List Request) (cores : ℕ → CoreState) → IsWhole shape slot posted cores → IsWhole shape (slot + 1) posted cores
+pub whole_later : (shape : Geometry) (slot : ℕ) (posted : List Request) (cores : ℕ → CoreState) → IsWhole shape slot posted cores
+    → IsWhole shape (slot + 1) posted cores
 whole_later shape slot posted cores w = record {
   fine = λ c. fine_later shape slot posted c (cores c).held (cores c).want (cores c).write_backs (cores c).status (w.fine c);
-  alone = w.alone; once = w.once; write_alone = w.write_alone; outside = w.outside; idle = w.idle;
+  alone = w.alone;
+  once = w.once;
+  write_alone = w.write_alone;
+  outside = w.outside;
+  idle = w.idle;
 }
 
 -- no line becomes owned, and none that isn't held becomes held
-pub alone_from : (old new : ℕ → CoreState) → OwnedAlone old → ((d l : ℕ) → mode_of l (new d).held ≡ Some Modified → mode_of l (old d).held ≡ Some Modified)
+pub alone_from : (old new : ℕ → CoreState) → OwnedAlone old
+    → ((d l : ℕ) → mode_of l (new d).held ≡ Some Modified → mode_of l (old d).held ≡ Some Modified)
     → ((d l : ℕ) → mode_of l (old d).held ≡ None → mode_of l (new d).held ≡ None) → OwnedAlone new
 alone_from old new alone owned none c d line is other = none d line (alone c d line (owned c line is) other)
 
 -- no request is new, and a line becomes shared only where no write is queued
-pub writes_from : (posted rest : List Request) (old new : ℕ → CoreState) → WritesAlone posted old → ((c : ℕ) (r : Request) → request_of c rest ≡ Some r → request_of c posted ≡ Some r)
-    → ((d l : ℕ) → mode_of l (new d).held ≡ Some Shared → (mode_of l (old d).held ≡ Some Shared) ⊎ (has_write l rest ≡ false)) → WritesAlone rest new
+pub writes_from : (posted rest : List Request) (old new : ℕ → CoreState) → WritesAlone posted old
+    → ((c : ℕ) (r : Request) → request_of c rest ≡ Some r → request_of c posted ≡ Some r)
+    → ((d l : ℕ) → mode_of l (new d).held ≡ Some Shared → (mode_of l (old d).held ≡ Some Shared) ⊎ (has_write l rest ≡ false))
+    → WritesAlone rest new
 writes_from posted rest old new alone less shared c d r is write other here = grind (arith, shared d r.line here, write_queued c rest r is write, alone c d r (less c r is) write other)
 
 -- each line is held as before or not at all
 abbrev pub IsLess : CoreState → CoreState → Type 0
 IsLess k j = (line : ℕ) → (mode_of line j.held ≡ mode_of line k.held) ⊎ (mode_of line j.held ≡ None)
 
-less_alone : (old new : ℕ → CoreState) → OwnedAlone old → ((d line : ℕ) → (mode_of line (new d).held ≡ mode_of line (old d).held) ⊎ (mode_of line (new d).held ≡ None)) → OwnedAlone new
+less_alone : (old new : ℕ → CoreState) → OwnedAlone old
+    → ((d line : ℕ) → (mode_of line (new d).held ≡ mode_of line (old d).held) ⊎ (mode_of line (new d).held ≡ None)) → OwnedAlone new
 less_alone old new alone less = alone_from old new alone (λ d l is. grind (arith, less d l)) (λ d l is. grind (arith, less d l))
 
-less_writes : (posted : List Request) (old new : ℕ → CoreState) → WritesAlone posted old → ((d line : ℕ) → (mode_of line (new d).held ≡ mode_of line (old d).held) ⊎ (mode_of line (new d).held ≡ None)) → WritesAlone posted new
+less_writes : (posted : List Request) (old new : ℕ → CoreState) → WritesAlone posted old
+    → ((d line : ℕ) → (mode_of line (new d).held ≡ mode_of line (old d).held) ⊎ (mode_of line (new d).held ≡ None)) → WritesAlone posted new
 less_writes posted old new alone less = writes_from posted posted old new alone (λ c r is. is) (λ d l is. grind (arith, less d l))
 
-pub whole_less : (shape : Geometry) (slot : ℕ) (posted : List Request) (cores : ℕ → CoreState) (c : ℕ) (k : CoreState) → IsWhole shape slot posted cores → c < shape.cores
+pub whole_less : (shape : Geometry) (slot : ℕ) (posted : List Request) (cores : ℕ → CoreState) (c : ℕ) (k : CoreState)
+    → IsWhole shape slot posted cores → c < shape.cores
     → FineCore shape slot posted c k → IsLess (cores c) k → IsWhole shape slot posted (λ d. if d == c then k else cores d)
 whole_less shape slot posted cores c k w below f less =
     let lesser : (d line : ℕ) → (mode_of line (if d == c then k else cores d).held ≡ mode_of line (cores d).held) ⊎ (mode_of line (if d == c then k else cores d).held ≡ None)
-        = at_core (λ d j. (line : ℕ) → (mode_of line j.held ≡ mode_of line (cores d).held) ⊎ (mode_of line j.held ≡ None)) c k cores less (λ d other line. inl refl) in record {
-  fine = at_core (FineCore shape slot posted) c k cores f (λ d other. w.fine d);
-  alone = less_alone cores (λ d. if d == c then k else cores d) w.alone lesser;
-  once = w.once;
-  write_alone = less_writes posted cores (λ d. if d == c then k else cores d) w.write_alone lesser;
-  outside = at_core (λ d j. shape.cores ≤ d → j.held ≡ []) c k cores (λ past. absurd (omega arith)) (λ d other. w.outside d);
-  idle = at_core (λ d j. shape.cores ≤ d → j.want ≡ None) c k cores (λ past. absurd (omega arith)) (λ d other. w.idle d);
-}
+    = at_core (λ d j. (line : ℕ) → (mode_of line j.held ≡ mode_of line (cores d).held) ⊎ (mode_of line j.held ≡ None)) c k cores less (λ d other line. inl refl) in record {
+      fine = at_core (FineCore shape slot posted) c k cores f (λ d other. w.fine d);
+      alone = less_alone cores (λ d. if d == c then k else cores d) w.alone lesser;
+      once = w.once;
+      write_alone = less_writes posted cores (λ d. if d == c then k else cores d) w.write_alone lesser;
+      outside = at_core (λ d j. shape.cores ≤ d → j.held ≡ []) c k cores (λ past. absurd (omega arith)) (λ d other. w.outside d);
+      idle = at_core (λ d j. shape.cores ≤ d → j.want ≡ None) c k cores (λ past. absurd (omega arith)) (λ d other. w.idle d);
+    }

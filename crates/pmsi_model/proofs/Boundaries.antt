@@ -1,5 +1,5 @@
 -- The machine from one boundary to the next.
-use Rattle.std.proofs.Common.{arith, ◌≡◌, ℕ, zero, suc, ◌+◌, refl, ◌∙◌, ap, add-one}
+use Rattle.std.proofs.Common.{arith, ◌≡◌, ℕ, zero, suc, ◌+◌, refl, ◌∙◌, add-one}
 use Rattle.pmsi_model.specs.Job.{JobValue}
 use Rattle.pmsi_model.specs.Machine.{Machine}
 use Rattle.pmsi_model.specs.Phase.{phase, phases}

@@ -10,7 +10,8 @@ by_test P false t e on_true on_false = on_false refl
 -- ---- one core becomes another
 
 -- what holds of the new core, and of the others as they were, holds of all
-pub at_core : (P : ℕ → CoreState → Type 0) (c : ℕ) (k : CoreState) (f : ℕ → CoreState) → P c k → ((d : ℕ) → d ≢ c → P d (f d)) → (d : ℕ) → P d (if d == c then k else f d)
+pub at_core : (P : ℕ → CoreState → Type 0) (c : ℕ) (k : CoreState) (f : ℕ → CoreState) → P c k → ((d : ℕ) → d ≢ c → P d (f d)) → (d : ℕ)
+    → P d (if d == c then k else f d)
 at_core P c k f own others d = by_test (P d) (d == c) k (f d)
     (λ same. let e : c ≡ d = grind arith in subst (λ n. P n k) e own)
     (λ other. others d (λ same. grind arith))

@@ -1,5 +1,5 @@
 -- What each change of the machine leaves in its parts.
-use Rattle.std.proofs.Common.{◌≡◌, ◌≢◌, ℕ, ◌+◌, List, [], ◌∷◌, ◌++◌, drop, Option, Some, None, is_some, Bool, true, false, ◌==◌, ◌&&◌, ◌||◌, if◌then◌else◌, refl, sym, ap, ◌∙◌, subst, arith}
+use Rattle.std.proofs.Common.{◌≡◌, ◌≢◌, ℕ, [], ◌∷◌, ◌++◌, drop, Option, Some, None, Bool, ◌==◌, ◌&&◌, if◌then◌else◌, refl, ap, ◌∙◌, arith}
 use Rattle.std.specs.Option.{option_map}
 use Rattle.pmsi_model.specs.declared.Kind.{Kind}
 use Rattle.pmsi_model.specs.declared.Kind.TheVariants.{Read, Write}
@@ -8,7 +8,7 @@ use Rattle.pmsi_model.specs.declared.Mode.TheVariants.{Shared, Modified}
 use Rattle.pmsi_model.specs.declared.Turn.TheVariants.{Request as RequestTurn, WriteBack as WriteBackTurn}
 use Rattle.pmsi_model.specs.declared.Want.{Want}
 use Rattle.pmsi_model.specs.Job.{JobValue, text_of}
-use Rattle.pmsi_model.specs.Machine.{Machine, Request, CoreState, mode_of, is_shared, is_modified, is_write, without, with_mode, has_line, append_once, has_request, has_write, removed}
+use Rattle.pmsi_model.specs.Machine.{Machine, CoreState, mode_of, is_shared, is_modified, is_write, without, with_mode, append_once, has_request, has_write, removed}
 use Rattle.pmsi_model.specs.Phase.{Context, met_bytes, memory_after, retired_with, instructions, context_of, phase}
 use Rattle.pmsi_model.specs.Bus.{post, post_at, noted_post_in, noted_post, fill, fill_for, filled_line, append_demanded, write_back, clear_victim}
 use Rattle.pmsi_model.proofs.Cases.{own_core, other_core}
@@ -42,7 +42,8 @@ pub post-memory : (x : Machine) (c : ℕ) (kind : Kind) (line : ℕ) → (post x
 unfolding post
 post-memory x c kind line = refl
 
-pub post-posted : (x : Machine) (c : ℕ) (kind : Kind) (line : ℕ) → (post x c kind line).posted ≡ x.posted ++ record { core = c; line = line; kind = kind } ∷ []
+pub post-posted : (x : Machine) (c : ℕ) (kind : Kind) (line : ℕ)
+    → (post x c kind line).posted ≡ x.posted ++ record { core = c; line = line; kind = kind } ∷ []
 unfolding post
 post-posted x c kind line = refl
 
@@ -94,16 +95,19 @@ noted_in-mode Read line l (Some Shared) k is = grind arith
 noted_in-mode Write line l (Some Shared) k is = grind (arith, mode_without l line k.held)
 noted_in-mode kind line l (Some Modified) k is = grind arith
 
-pub noted-mode : (kind : Kind) (line l : ℕ) (k : CoreState) → mode_of l (noted_post kind line k).held ≡ (if (l == line) && (is_write kind && is_shared (mode_of line k.held)) then None else mode_of l k.held)
+pub noted-mode : (kind : Kind) (line l : ℕ) (k : CoreState)
+    → mode_of l (noted_post kind line k).held ≡ (if (l == line) && (is_write kind && is_shared (mode_of line k.held)) then None else mode_of l k.held)
 noted-mode kind line l k = noted_in-mode kind line l (mode_of line k.held) k refl
 
-noted_in-backs : (kind : Kind) (line : ℕ) (mode : Option Mode) (k : CoreState) → (noted_post_in kind line mode k).write_backs ≡ (if is_modified mode then append_once line k.write_backs else k.write_backs)
+noted_in-backs : (kind : Kind) (line : ℕ) (mode : Option Mode) (k : CoreState)
+    → (noted_post_in kind line mode k).write_backs ≡ (if is_modified mode then append_once line k.write_backs else k.write_backs)
 noted_in-backs kind line None k = refl
 noted_in-backs Read line (Some Shared) k = refl
 noted_in-backs Write line (Some Shared) k = refl
 noted_in-backs kind line (Some Modified) k = refl
 
-pub noted-backs : (kind : Kind) (line : ℕ) (k : CoreState) → (noted_post kind line k).write_backs ≡ (if is_modified (mode_of line k.held) then append_once line k.write_backs else k.write_backs)
+pub noted-backs : (kind : Kind) (line : ℕ) (k : CoreState)
+    → (noted_post kind line k).write_backs ≡ (if is_modified (mode_of line k.held) then append_once line k.write_backs else k.write_backs)
 noted-backs kind line k = noted_in-backs kind line (mode_of line k.held) k
 
 -- who doesn't hold the line keeps all

@@ -1,9 +1,8 @@
 -- What the readers of held lines say after each change.
-use Rattle.std.proofs.Common.{inl, inr, ◌≡◌, ◌≢◌, ◌⊎◌, ℕ, ◌+◌, ◌<◌, ◌≤◌, List, [], ◌∷◌, ◌++◌, length, map, filter, Option, Some, None, is_some, is_none, Bool, true, false, not, ◌==◌, ◌&&◌, if◌then◌else◌, refl, sym, ap, ◌∙◌, arith}
+use Rattle.std.proofs.Common.{inl, ◌≡◌, ◌≢◌, ◌⊎◌, ℕ, ◌+◌, ◌<◌, ◌≤◌, List, [], ◌∷◌, length, Option, Some, None, is_some, ◌==◌, if◌then◌else◌, refl, arith}
 use Rattle.std.specs.List.{last_or}
 use Rattle.pmsi_model.specs.declared.job.Geometry.{Geometry}
 use Rattle.pmsi_model.specs.declared.Mode.{Mode}
-use Rattle.pmsi_model.specs.declared.Mode.TheVariants.{Shared, Modified}
 use Rattle.pmsi_model.specs.Geometry.{set_of}
 use Rattle.pmsi_model.specs.Machine.{mode_of, without, to_front, with_mode}
 use Rattle.pmsi_model.specs.Phase.{set_lines, evicted}
@@ -13,10 +12,12 @@ pub mode_without : (l line : ℕ) (hs : List (ℕ × Mode)) → mode_of l (witho
 mode_without l line [] = grind arith
 mode_without l line (h ∷ hs) = grind (arith, mode_without l line hs)
 
-pub mode_to_front : (l line : ℕ) (m : Mode) (hs : List (ℕ × Mode)) → mode_of l (to_front line m hs) ≡ (if l == line then Some m else mode_of l hs)
+pub mode_to_front : (l line : ℕ) (m : Mode) (hs : List (ℕ × Mode))
+    → mode_of l (to_front line m hs) ≡ (if l == line then Some m else mode_of l hs)
 mode_to_front l line m hs = grind (arith, mode_without l line hs)
 
-pub mode_with_mode : (l line : ℕ) (m : Mode) (hs : List (ℕ × Mode)) → mode_of l (with_mode line m hs) ≡ (if l == line then (if is_some (mode_of line hs) then Some m else None) else mode_of l hs)
+pub mode_with_mode : (l line : ℕ) (m : Mode) (hs : List (ℕ × Mode))
+    → mode_of l (with_mode line m hs) ≡ (if l == line then (if is_some (mode_of line hs) then Some m else None) else mode_of l hs)
 mode_with_mode l line m [] = grind arith
 mode_with_mode l line m (h ∷ hs) = grind (arith, mode_with_mode l line m hs)
 
@@ -31,19 +32,23 @@ pub once_with_mode : (line : ℕ) (m : Mode) (hs : List (ℕ × Mode)) → Holds
 once_with_mode line m [] o = o
 once_with_mode line m (h ∷ hs) o = grind (arith, mode_with_mode h.0 line m hs, once_with_mode line m hs o.1)
 
-pub fewer_without : (shape : Geometry) (l line : ℕ) (hs : List (ℕ × Mode)) → length (set_lines shape l (without line hs)) ≤ length (set_lines shape l hs)
+pub fewer_without : (shape : Geometry) (l line : ℕ) (hs : List (ℕ × Mode))
+    → length (set_lines shape l (without line hs)) ≤ length (set_lines shape l hs)
 fewer_without shape l line [] = grind arith
 fewer_without shape l line (h ∷ hs) = grind (arith, fewer_without shape l line hs)
 
-pub room_without : (shape : Geometry) (l line : ℕ) (hs : List (ℕ × Mode)) → mode_of line hs ≢ None → set_of shape line ≡ set_of shape l → length (set_lines shape l (without line hs)) < length (set_lines shape l hs)
+pub room_without : (shape : Geometry) (l line : ℕ) (hs : List (ℕ × Mode)) → mode_of line hs ≢ None → set_of shape line ≡ set_of shape l
+    → length (set_lines shape l (without line hs)) < length (set_lines shape l hs)
 room_without shape l line [] held same = grind arith
 room_without shape l line (h ∷ hs) held same = grind (arith, fewer_without shape l line hs, room_without shape l line hs)
 
-pub same_with_mode : (shape : Geometry) (l line : ℕ) (m : Mode) (hs : List (ℕ × Mode)) → length (set_lines shape l (with_mode line m hs)) ≡ length (set_lines shape l hs)
+pub same_with_mode : (shape : Geometry) (l line : ℕ) (m : Mode) (hs : List (ℕ × Mode))
+    → length (set_lines shape l (with_mode line m hs)) ≡ length (set_lines shape l hs)
 same_with_mode shape l line m [] = refl
 same_with_mode shape l line m (h ∷ hs) = grind (arith, same_with_mode shape l line m hs)
 
-pub count_to_front : (shape : Geometry) (l line : ℕ) (m : Mode) (hs : List (ℕ × Mode)) → length (set_lines shape l (to_front line m hs)) ≡ (if set_of shape line == set_of shape l then 1 else 0) + length (set_lines shape l (without line hs))
+pub count_to_front : (shape : Geometry) (l line : ℕ) (m : Mode) (hs : List (ℕ × Mode))
+    → length (set_lines shape l (to_front line m hs)) ≡ (if set_of shape line == set_of shape l then 1 else 0) + length (set_lines shape l (without line hs))
 count_to_front shape l line m hs = grind arith
 
 -- ---- the line that a miss evicts
@@ -56,14 +61,17 @@ last_none : (hs : List (ℕ × Mode)) → last_or None hs ≡ None → length hs
 last_none [] none = refl
 last_none (h ∷ hs) none = absurd (last_some h hs none)
 
-last_in_set : (shape : Geometry) (line : ℕ) (hs : List (ℕ × Mode)) (o : Option (ℕ × Mode)) (h : ℕ × Mode) → HoldsEachOnce hs → last_or o (set_lines shape line hs) ≡ Some h → (o ≡ Some h) ⊎ ((mode_of h.0 hs ≡ Some h.1) × (set_of shape h.0 ≡ set_of shape line))
+last_in_set : (shape : Geometry) (line : ℕ) (hs : List (ℕ × Mode)) (o : Option (ℕ × Mode)) (h : ℕ × Mode) → HoldsEachOnce hs
+    → last_or o (set_lines shape line hs) ≡ Some h → (o ≡ Some h) ⊎ ((mode_of h.0 hs ≡ Some h.1) × (set_of shape h.0 ≡ set_of shape line))
 last_in_set shape line [] o h once is = inl is
 last_in_set shape line (g ∷ hs) o h once is = grind (arith, last_in_set shape line hs (Some g) h once.1, last_in_set shape line hs o h once.1, once.0)
 
 -- it is held in its mode, in the set of the line that isn't held
-pub evicted_held : (shape : Geometry) (line : ℕ) (hs : List (ℕ × Mode)) (h : ℕ × Mode) → HoldsEachOnce hs → evicted shape line hs ≡ Some h → (mode_of h.0 hs ≡ Some h.1) × (set_of shape h.0 ≡ set_of shape line) × (mode_of line hs ≡ None)
+pub evicted_held : (shape : Geometry) (line : ℕ) (hs : List (ℕ × Mode)) (h : ℕ × Mode) → HoldsEachOnce hs → evicted shape line hs ≡ Some h
+    → (mode_of h.0 hs ≡ Some h.1) × (set_of shape h.0 ≡ set_of shape line) × (mode_of line hs ≡ None)
 evicted_held shape line hs h once is = grind (arith, last_in_set shape line hs None h once)
 
 -- where none is evicted the line is held or its set has room
-pub evicted_none : (shape : Geometry) (line : ℕ) (hs : List (ℕ × Mode)) → 1 ≤ shape.ways → length (set_lines shape line hs) ≤ shape.ways → evicted shape line hs ≡ None → (mode_of line hs ≢ None) ⊎ (length (set_lines shape line hs) < shape.ways)
+pub evicted_none : (shape : Geometry) (line : ℕ) (hs : List (ℕ × Mode)) → 1 ≤ shape.ways → length (set_lines shape line hs) ≤ shape.ways
+    → evicted shape line hs ≡ None → (mode_of line hs ≢ None) ⊎ (length (set_lines shape line hs) < shape.ways)
 evicted_none shape line hs some within none = grind (arith, last_none (set_lines shape line hs))

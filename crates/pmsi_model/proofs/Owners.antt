@@ -1,5 +1,5 @@
 -- Who owns a line.
-use Rattle.std.proofs.Common.{◌≡◌, ◌≢◌, ℕ, zero, suc, ◌+◌, ◌<◌, ◌≤◌, Option, Some, None, Bool, true, false, not, ◌&&◌, if◌then◌else◌, refl, sym, ap, ◌∙◌, subst, arith}
+use Rattle.std.proofs.Common.{◌≡◌, ◌≢◌, ℕ, zero, suc, ◌<◌, Option, Some, None, Bool, true, false, if◌then◌else◌, refl, ap, subst, arith}
 use mathlib.Core.Logic.{dite}
 use native.Mathlib.Decide.{ℕ_discrete}
 use Rattle.pmsi_model.specs.declared.Mode.{Mode}
@@ -29,7 +29,8 @@ nobody_below x (suc count) line nobody d below owned = dite (ℕ_discrete d coun
     (λ last. let here : mode_in x count line ≡ Some Modified = subst (λ (n : ℕ). mode_in x n line ≡ Some Modified) last owned in grind arith)
     (λ other. nobody_below x count line (grind arith) d (omega arith) owned)
 
-pub nobody_from : (x : Machine) (count line : ℕ) → ((d : ℕ) → d < count → mode_in x d line ≢ Some Modified) → nobody_owns x count line ≡ true
+pub nobody_from : (x : Machine) (count line : ℕ) → ((d : ℕ) → d < count → mode_in x d line ≢ Some Modified)
+    → nobody_owns x count line ≡ true
 nobody_from x zero line none = refl
 nobody_from x (suc count) line none =
     let before : nobody_owns x count line ≡ true = nobody_from x count line (λ d below. none d (omega arith)) in
@@ -41,11 +42,13 @@ pub owner_below : (x : Machine) (count line d : ℕ) → owner_of x count line �
 owner_below x zero line d is = absurd (grind arith)
 owner_below x (suc count) line d is = grind (arith, owner_below x count line d)
 
-mode_last : (x : Machine) (count line d : ℕ) (b : Bool) → owns x count line ≡ b → (if b then Some count else None) ≡ Some d → mode_in x d line ≡ Some Modified
+mode_last : (x : Machine) (count line d : ℕ) (b : Bool) → owns x count line ≡ b → (if b then Some count else None) ≡ Some d
+    → mode_in x d line ≡ Some Modified
 mode_last x count line d true owned is = let e : count ≡ d = grind arith in subst (λ (n : ℕ). mode_in x n line ≡ Some Modified) e (owns_mode x count line owned)
 mode_last x count line d false owned is = absurd (grind arith)
 
-mode_first : (x : Machine) (count line d : ℕ) (o : Option ℕ) → (o ≡ Some d → mode_in x d line ≡ Some Modified) → or_else o (if owns x count line then Some count else None) ≡ Some d → mode_in x d line ≡ Some Modified
+mode_first : (x : Machine) (count line d : ℕ) (o : Option ℕ) → (o ≡ Some d → mode_in x d line ≡ Some Modified)
+    → or_else o (if owns x count line then Some count else None) ≡ Some d → mode_in x d line ≡ Some Modified
 mode_first x count line d None before is = mode_last x count line d (owns x count line) refl is
 mode_first x count line d (Some n) before is = before is
 
@@ -61,10 +64,12 @@ pub nobody_none : (x : Machine) (count line : ℕ) → nobody_owns x count line 
 nobody_none x zero line nobody = refl
 nobody_none x (suc count) line nobody = grind (arith, nobody_none x count line)
 
-owner_case : (x : Machine) (count line c : ℕ) → c < count → mode_in x c line ≡ Some Modified → ((d : ℕ) → d ≢ c → mode_in x d line ≢ Some Modified) → (o : Option ℕ) → owner_of x count line ≡ o → o ≡ Some c
+owner_case : (x : Machine) (count line c : ℕ) → c < count → mode_in x c line ≡ Some Modified
+    → ((d : ℕ) → d ≢ c → mode_in x d line ≢ Some Modified) → (o : Option ℕ) → owner_of x count line ≡ o → o ≡ Some c
 owner_case x count line c below owned alone None is = absurd (nobody_below x count line (owner_none x count line is) c below owned)
 owner_case x count line c below owned alone (Some d) is = dite (ℕ_discrete d c) (λ same. ap (λ (n : ℕ). Some n) same) (λ other. absurd (alone d other (owner_mode x count line d is)))
 
 -- a core that owns the line alone is its owner
-pub owner_is : (x : Machine) (count line c : ℕ) → c < count → mode_in x c line ≡ Some Modified → ((d : ℕ) → d ≢ c → mode_in x d line ≢ Some Modified) → owner_of x count line ≡ Some c
+pub owner_is : (x : Machine) (count line c : ℕ) → c < count → mode_in x c line ≡ Some Modified
+    → ((d : ℕ) → d ≢ c → mode_in x d line ≢ Some Modified) → owner_of x count line ≡ Some c
 owner_is x count line c below owned alone = owner_case x count line c below owned alone (owner_of x count line) refl

@@ -1,20 +1,22 @@
 -- What the readers of the posted requests say after a request is added or removed.
-use Rattle.std.proofs.Common.{◌≡◌, ◌≢◌, ℕ, ◌+◌, ◌≤◌, length, List, [], ◌∷◌, ◌++◌, Option, Some, None, is_some, Bool, true, false, not, ◌==◌, ◌&&◌, ◌||◌, filter, if◌then◌else◌, refl, arith}
-use Rattle.pmsi_model.specs.declared.Kind.{Kind}
-use Rattle.pmsi_model.specs.declared.Kind.TheVariants.{Read, Write}
+use Rattle.std.proofs.Common.{◌≡◌, ◌≢◌, ℕ, ◌+◌, ◌≤◌, length, List, [], ◌∷◌, ◌++◌, Some, None, is_some, true, ◌==◌, ◌&&◌, ◌||◌, if◌then◌else◌, refl, arith}
+use Rattle.pmsi_model.specs.declared.Kind.TheVariants.{Write}
 use Rattle.pmsi_model.specs.Machine.{Request, is_write, first_of, has_request, has_write, ahead, request_of, removed}
 use Rattle.pmsi_model.specs.Coherent.{RequestsOnce}
 use Rattle.pmsi_model.proofs.Cases.{by_test}
 
-pub request_more : (c : ℕ) (rs : List Request) (r : Request) → request_of c (rs ++ r ∷ []) ≡ (if is_some (request_of c rs) then request_of c rs else (if r.core == c then Some r else None))
+pub request_more : (c : ℕ) (rs : List Request) (r : Request)
+    → request_of c (rs ++ r ∷ []) ≡ (if is_some (request_of c rs) then request_of c rs else (if r.core == c then Some r else None))
 request_more c [] r = grind arith
 request_more c (x ∷ rs) r = grind (arith, request_more c rs r)
 
-pub has_request_more : (line : ℕ) (rs : List Request) (r : Request) → has_request line (rs ++ r ∷ []) ≡ (has_request line rs || r.line == line)
+pub has_request_more : (line : ℕ) (rs : List Request) (r : Request)
+    → has_request line (rs ++ r ∷ []) ≡ (has_request line rs || r.line == line)
 has_request_more line [] r = grind arith
 has_request_more line (x ∷ rs) r = grind (arith, has_request_more line rs r)
 
-pub has_write_more : (line : ℕ) (rs : List Request) (r : Request) → has_write line (rs ++ r ∷ []) ≡ (has_write line rs || (r.line == line && is_write r.kind))
+pub has_write_more : (line : ℕ) (rs : List Request) (r : Request)
+    → has_write line (rs ++ r ∷ []) ≡ (has_write line rs || (r.line == line && is_write r.kind))
 has_write_more line [] r = grind arith
 has_write_more line (x ∷ rs) r = grind (arith, has_write_more line rs r)
 
@@ -37,11 +39,13 @@ has_request_less line c [] has = has
 has_request_less line c (x ∷ rs) has = grind (arith, has_request_less line c rs)
 
 -- the queue of a line that the removed request isn't for is as before
-pub has_request_else : (line c : ℕ) (rs : List Request) (r : Request) → RequestsOnce rs → request_of c rs ≡ Some r → r.line ≢ line → has_request line (removed c rs) ≡ has_request line rs
+pub has_request_else : (line c : ℕ) (rs : List Request) (r : Request) → RequestsOnce rs → request_of c rs ≡ Some r → r.line ≢ line
+    → has_request line (removed c rs) ≡ has_request line rs
 has_request_else line c [] r once is other = grind arith
 has_request_else line c (x ∷ rs) r once is other = grind (arith, has_request_else line c rs r once.1, removed_none c rs, once.0)
 
-pub has_write_else : (line c : ℕ) (rs : List Request) (r : Request) → RequestsOnce rs → request_of c rs ≡ Some r → r.line ≢ line → has_write line (removed c rs) ≡ has_write line rs
+pub has_write_else : (line c : ℕ) (rs : List Request) (r : Request) → RequestsOnce rs → request_of c rs ≡ Some r → r.line ≢ line
+    → has_write line (removed c rs) ≡ has_write line rs
 has_write_else line c [] r once is other = grind arith
 has_write_else line c (x ∷ rs) r once is other = grind (arith, has_write_else line c rs r once.1, removed_none c rs, once.0)
 
@@ -65,7 +69,8 @@ requests_once_less c (x ∷ rs) once = grind (arith, request_less x.core c rs, r
 
 -- ---- the first of a queue
 
-pub first_more : (line : ℕ) (rs : List Request) (r : Request) → first_of line (rs ++ r ∷ []) ≡ (if is_some (first_of line rs) then first_of line rs else (if r.line == line then Some r.core else None))
+pub first_more : (line : ℕ) (rs : List Request) (r : Request)
+    → first_of line (rs ++ r ∷ []) ≡ (if is_some (first_of line rs) then first_of line rs else (if r.line == line then Some r.core else None))
 first_more line [] r = grind arith
 first_more line (x ∷ rs) r = grind (arith, first_more line rs r)
 
@@ -75,7 +80,8 @@ first_some line [] = refl
 first_some line (x ∷ rs) = grind (arith, first_some line rs)
 
 -- the first has a request for the line
-pub first_request : (c line : ℕ) (rs : List Request) → RequestsOnce rs → first_of line rs ≡ Some c → (r : Request) × (request_of c rs ≡ Some r) × (r.line ≡ line)
+pub first_request : (c line : ℕ) (rs : List Request) → RequestsOnce rs → first_of line rs ≡ Some c
+    → (r : Request) × (request_of c rs ≡ Some r) × (r.line ≡ line)
 first_request c line [] once first = absurd (grind arith)
 first_request c line (x ∷ rs) once first = by_test (λ o. o ≡ Some c → (r : Request) × (request_of c (x ∷ rs) ≡ Some r) × (r.line ≡ line)) (x.line == line) (Some x.core) (first_of line rs)
     (λ here is. (x, grind arith, grind arith))
@@ -95,7 +101,8 @@ ahead_more c line [] r q is = grind arith
 ahead_more c line (x ∷ rs) r q is = grind (arith, ahead_more c line rs r q)
 
 -- a new request has all those of its line ahead
-pub ahead_new : (line : ℕ) (rs : List Request) (r : Request) → request_of r.core rs ≡ None → ahead r.core line (rs ++ r ∷ []) ≡ ahead r.core line rs
+pub ahead_new : (line : ℕ) (rs : List Request) (r : Request) → request_of r.core rs ≡ None
+    → ahead r.core line (rs ++ r ∷ []) ≡ ahead r.core line rs
 ahead_new line [] r none = grind arith
 ahead_new line (x ∷ rs) r none = grind (arith, ahead_new line rs r)
 
@@ -105,17 +112,20 @@ ahead_first c line [] first once = refl
 ahead_first c line (x ∷ rs) first once = by_test (λ n. n ≡ 0) (x.core == c) 0 ((if x.line == line then 1 else 0) + ahead c line rs) (λ mine. refl)
     (λ other. grind (arith, ahead_first c line rs))
 
-pub ahead_zero : (c line : ℕ) (rs : List Request) (r : Request) → request_of c rs ≡ Some r → r.line ≡ line → ahead c line rs ≡ 0 → first_of line rs ≡ Some c
+pub ahead_zero : (c line : ℕ) (rs : List Request) (r : Request) → request_of c rs ≡ Some r → r.line ≡ line → ahead c line rs ≡ 0
+    → first_of line rs ≡ Some c
 ahead_zero c line [] r is at none = grind arith
 ahead_zero c line (x ∷ rs) r is at none = grind (arith, ahead_zero c line rs r)
 
 -- when the first is removed one fewer is ahead
-pub ahead_less : (c d line : ℕ) (rs : List Request) (r : Request) → RequestsOnce rs → first_of line rs ≡ Some d → d ≢ c → request_of c rs ≡ Some r → r.line ≡ line → ahead c line rs ≡ ahead c line (removed d rs) + 1
+pub ahead_less : (c d line : ℕ) (rs : List Request) (r : Request) → RequestsOnce rs → first_of line rs ≡ Some d → d ≢ c
+    → request_of c rs ≡ Some r → r.line ≡ line → ahead c line rs ≡ ahead c line (removed d rs) + 1
 ahead_less c d line [] r once first other is at = grind arith
 ahead_less c d line (x ∷ rs) r once first other is at = grind (arith, ahead_less c d line rs r once.1, removed_none d rs, once.0)
 
 -- when a request of another line is removed as many are ahead
-pub ahead_else : (c d line : ℕ) (rs : List Request) (r : Request) → RequestsOnce rs → request_of d rs ≡ Some r → r.line ≢ line → d ≢ c → ahead c line (removed d rs) ≡ ahead c line rs
+pub ahead_else : (c d line : ℕ) (rs : List Request) (r : Request) → RequestsOnce rs → request_of d rs ≡ Some r → r.line ≢ line → d ≢ c
+    → ahead c line (removed d rs) ≡ ahead c line rs
 ahead_else c d line [] r once is away other = grind arith
 ahead_else c d line (x ∷ rs) r once is away other = grind (arith, ahead_else c d line rs r once.1, removed_none d rs, once.0)
 

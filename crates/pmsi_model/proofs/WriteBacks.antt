@@ -1,5 +1,5 @@
 -- What the readers of lines to write back say after each change.
-use Rattle.std.proofs.Common.{◌≡◌, ◌≢◌, ℕ, ◌+◌, ◌<◌, ◌≤◌, List, [], ◌∷◌, ◌++◌, length, Option, Some, None, Bool, true, false, not, ◌==◌, ◌||◌, if◌then◌else◌, refl, arith}
+use Rattle.std.proofs.Common.{◌≡◌, ℕ, List, [], ◌∷◌, ◌++◌, false, ◌==◌, ◌||◌, refl, arith}
 use Rattle.pmsi_model.specs.Machine.{has_line, append_once}
 use Rattle.pmsi_model.specs.Coherent.{ListsEachOnce}
 
