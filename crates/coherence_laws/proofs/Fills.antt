@@ -34,18 +34,21 @@ filled_within : (shape : Geometry) (l line : ℕ) (mode : Mode) (held : List (�
     → (mode_of line held ≢ None) ⊎ (length (set_lines shape line held) < shape.ways)
     → length (set_lines shape l (to_front line mode held)) ≤ shape.ways
 filled_within shape l line mode held within room =
-    let h : (if set_of shape line == set_of shape l then 1 else 0) + length (set_lines shape l (without line held)) ≤ shape.ways = by_test (λ (n : ℕ). n + length (set_lines shape l (without line held)) ≤ shape.ways) (set_of shape line == set_of shape l) 1 0
+    let h : (if set_of shape line == set_of shape l then 1 else 0) + length (set_lines shape l (without line held)) ≤ shape.ways =
+        by_test (λ (n : ℕ). n + length (set_lines shape l (without line held)) ≤ shape.ways) (set_of shape line == set_of shape l) 1 0
     (λ same. let e : set_of shape line ≡ set_of shape l = grind arith in
     let n : length (set_lines shape line held) ≡ length (set_lines shape l held) = ap (λ (s : ℕ). length (filter (λ h. set_of shape h.0 == s) held)) e in
     grind (arith, fewer_without shape l line held, room_without shape l line held))
     (λ other. grind (arith, fewer_without shape l line held)) in
     grind (arith, count_to_front shape l line mode held, h)
 
-fine_fill_write : (shape : Geometry) (slot : ℕ) (posted : List Request) (c : ℕ) (held : List (ℕ × Mode)) (want : Want) (backs : List ℕ) (status : Status) (behind : Bool)
+fine_fill_write : (shape : Geometry) (slot : ℕ) (posted : List Request) (c : ℕ) (held : List (ℕ × Mode)) (want : Want) (backs : List ℕ)
+    (status : Status) (behind : Bool)
     → IsFine shape slot posted c held (Some want) backs status → RequestsOnce posted → is_some want.post ≡ true → want.kind ≡ Write
     → has_request want.line (removed c posted) ≡ behind
     → IsFine shape slot (removed c posted) c (to_front want.line Modified held) None (append_demanded Write behind want.line backs) status
-fine_fill_write shape slot posted c held want backs status behind f once post write is = let w = f.want_fine want refl in let free = no_victim shape slot held backs status want w post in
+fine_fill_write shape slot posted c held want backs status behind f once post write is =
+    let w = f.want_fine want refl in let free = no_victim shape slot held backs status want w post in
     let mine : request_of c posted ≡ Some (record { core = c; line = want.line; kind = want.kind }) = grind (arith, f.posted_wants) in
     let unowned : mode_of want.line held ≢ Some Modified = w.write_unowned write in
     let new : has_line want.line backs ≡ false = grind (arith, f.back_owned want.line) in record {
@@ -63,7 +66,8 @@ fine_fill_write shape slot posted c held want backs status behind f once post wr
 fine_fill_shared : (shape : Geometry) (slot : ℕ) (posted : List Request) (c : ℕ) (held : List (ℕ × Mode)) (want : Want) (backs : List ℕ) (status : Status)
     → IsFine shape slot posted c held (Some want) backs status → RequestsOnce posted → is_some want.post ≡ true → want.kind ≡ Read
     → IsFine shape slot (removed c posted) c (to_front want.line Shared held) None backs status
-fine_fill_shared shape slot posted c held want backs status f once post read = let w = f.want_fine want refl in let free = no_victim shape slot held backs status want w post in
+fine_fill_shared shape slot posted c held want backs status f once post read =
+    let w = f.want_fine want refl in let free = no_victim shape slot held backs status want w post in
     let mine : request_of c posted ≡ Some (record { core = c; line = want.line; kind = want.kind }) = grind (arith, f.posted_wants) in
     let unheld : mode_of want.line held ≡ None = w.read_unheld read in record {
       held_once = once_to_front want.line Shared held f.held_once;
@@ -80,7 +84,8 @@ fine_fill_shared shape slot posted c held want backs status f once post read = l
 fine_fill_none : (shape : Geometry) (slot : ℕ) (posted : List Request) (c : ℕ) (held : List (ℕ × Mode)) (want : Want) (backs : List ℕ) (status : Status)
     → IsFine shape slot posted c held (Some want) backs status → RequestsOnce posted → is_some want.post ≡ true → want.kind ≡ Read
     → IsFine shape slot (removed c posted) c held None backs status
-fine_fill_none shape slot posted c held want backs status f once post read = let w = f.want_fine want refl in let free = no_victim shape slot held backs status want w post in
+fine_fill_none shape slot posted c held want backs status f once post read =
+    let w = f.want_fine want refl in let free = no_victim shape slot held backs status want w post in
     let mine : request_of c posted ≡ Some (record { core = c; line = want.line; kind = want.kind }) = grind (arith, f.posted_wants) in
     let unheld : mode_of want.line held ≡ None = w.read_unheld read in record {
       held_once = f.held_once;
@@ -100,4 +105,5 @@ fine_fill shape slot posted c held want backs status Read f once post is =
     by_test (λ (h : List (ℕ × Mode)). IsFine shape slot (removed c posted) c h None backs status) (has_write want.line (removed c posted)) held (to_front want.line Shared held)
     (λ behind. fine_fill_none shape slot posted c held want backs status f once post is)
     (λ alone. fine_fill_shared shape slot posted c held want backs status f once post is)
-fine_fill shape slot posted c held want backs status Write f once post is = fine_fill_write shape slot posted c held want backs status (has_request want.line (removed c posted)) f once post is refl
+fine_fill shape slot posted c held want backs status Write f once post is =
+    fine_fill_write shape slot posted c held want backs status (has_request want.line (removed c posted)) f once post is refl

@@ -31,7 +31,8 @@ pub record IsWantFine (shape : Geometry) (slot : ℕ) (held : List (ℕ × Mode)
   pub runs : status ≡ Running
 
 -- what holds of a core
-pub record IsFine (shape : Geometry) (slot : ℕ) (posted : List Request) (c : ℕ) (held : List (ℕ × Mode)) (want : Option Want) (backs : List ℕ) (status : Status) : Type 0 where
+pub record IsFine (shape : Geometry) (slot : ℕ) (posted : List Request) (c : ℕ) (held : List (ℕ × Mode)) (want : Option Want)
+    (backs : List ℕ) (status : Status) : Type 0 where
   pub held_once : HoldsEachOnce held
   pub held_within : (line : ℕ) → length (set_lines shape line held) ≤ shape.ways
   pub posted_wants : request_of c posted ≡ posted_request c want
@@ -123,7 +124,8 @@ fine_front shape slot posted c held backs status line mode f is = record {
   want_fine = λ w none. absurd (grind arith);
 }
 
-pub fine_touched : (shape : Geometry) (slot : ℕ) (posted : List Request) (c : ℕ) (held : List (ℕ × Mode)) (backs : List ℕ) (status : Status) (line : ℕ) (mode : Option Mode)
+pub fine_touched : (shape : Geometry) (slot : ℕ) (posted : List Request) (c : ℕ) (held : List (ℕ × Mode)) (backs : List ℕ) (status : Status)
+    (line : ℕ) (mode : Option Mode)
     → IsFine shape slot posted c held None backs status → mode_of line held ≡ mode
     → IsFine shape slot posted c (touched_line mode line held) None backs status
 fine_touched shape slot posted c held backs status line None f is = f
@@ -155,7 +157,8 @@ abbrev new_want : ℕ → Kind → ℕ → Option ℕ → Access → Want
 new_want line kind slot victim access = record { line = line; kind = kind; issue = slot; post = None; victim = victim; access = access }
 
 -- no line is evicted
-missed_none : (shape : Geometry) (slot : ℕ) (posted : List Request) (c : ℕ) (held : List (ℕ × Mode)) (backs : List ℕ) (status : Status) (line : ℕ) (kind : Kind) (access : Access)
+missed_none : (shape : Geometry) (slot : ℕ) (posted : List Request) (c : ℕ) (held : List (ℕ × Mode)) (backs : List ℕ) (status : Status)
+    (line : ℕ) (kind : Kind) (access : Access)
     → IsFine shape (slot + 1) posted c held None backs status → status ≡ Running → permits kind (mode_of line held) ≡ false → 1 ≤ shape.ways
     → evicted shape line held ≡ None
     → IsFine shape (slot + 1) posted c held (Some (new_want line kind slot None access)) backs status
@@ -172,11 +175,13 @@ missed_none shape slot posted c held backs status line kind access f runs denied
 }
 
 -- a shared line is dropped
-missed_shared : (shape : Geometry) (slot : ℕ) (posted : List Request) (c : ℕ) (held : List (ℕ × Mode)) (backs : List ℕ) (status : Status) (line : ℕ) (kind : Kind) (access : Access) (gone : ℕ)
+missed_shared : (shape : Geometry) (slot : ℕ) (posted : List Request) (c : ℕ) (held : List (ℕ × Mode)) (backs : List ℕ) (status : Status)
+    (line : ℕ) (kind : Kind) (access : Access) (gone : ℕ)
     → IsFine shape (slot + 1) posted c held None backs status → status ≡ Running → permits kind (mode_of line held) ≡ false
     → evicted shape line held ≡ Some (gone, Shared)
     → IsFine shape (slot + 1) posted c (without gone held) (Some (new_want line kind slot None access)) backs status
-missed_shared shape slot posted c held backs status line kind access gone f runs denied is = let e = evicted_held shape line held (gone, Shared) f.held_once is in record {
+missed_shared shape slot posted c held backs status line kind access gone f runs denied is =
+    let e = evicted_held shape line held (gone, Shared) f.held_once is in record {
   held_once = once_without gone held f.held_once;
   held_within = λ l. grind (arith, fewer_without shape l gone held, f.held_within l);
   posted_wants = f.posted_wants;
@@ -190,11 +195,13 @@ missed_shared shape slot posted c held backs status line kind access gone f runs
 }
 
 -- a modified line becomes the victim
-missed_modified : (shape : Geometry) (slot : ℕ) (posted : List Request) (c : ℕ) (held : List (ℕ × Mode)) (backs : List ℕ) (status : Status) (line : ℕ) (kind : Kind) (access : Access) (gone : ℕ)
+missed_modified : (shape : Geometry) (slot : ℕ) (posted : List Request) (c : ℕ) (held : List (ℕ × Mode)) (backs : List ℕ) (status : Status)
+    (line : ℕ) (kind : Kind) (access : Access) (gone : ℕ)
     → IsFine shape (slot + 1) posted c held None backs status → status ≡ Running → permits kind (mode_of line held) ≡ false
     → evicted shape line held ≡ Some (gone, Modified)
     → IsFine shape (slot + 1) posted c held (Some (new_want line kind slot (Some gone) access)) (append_once gone backs) status
-missed_modified shape slot posted c held backs status line kind access gone f runs denied is = let e = evicted_held shape line held (gone, Modified) f.held_once is in record {
+missed_modified shape slot posted c held backs status line kind access gone f runs denied is =
+    let e = evicted_held shape line held (gone, Modified) f.held_once is in record {
   held_once = f.held_once;
   held_within = f.held_within;
   posted_wants = f.posted_wants;
@@ -208,10 +215,14 @@ missed_modified shape slot posted c held backs status line kind access gone f ru
       (inr (inr (grind arith))));
 }
 
-pub fine_missed : (shape : Geometry) (slot : ℕ) (posted : List Request) (c : ℕ) (held : List (ℕ × Mode)) (backs : List ℕ) (status : Status) (line : ℕ) (kind : Kind) (access : Access) (gone : Option (ℕ × Mode))
+pub fine_missed : (shape : Geometry) (slot : ℕ) (posted : List Request) (c : ℕ) (held : List (ℕ × Mode)) (backs : List ℕ) (status : Status)
+    (line : ℕ) (kind : Kind) (access : Access) (gone : Option (ℕ × Mode))
     → IsFine shape (slot + 1) posted c held None backs status → status ≡ Running → permits kind (mode_of line held) ≡ false → 1 ≤ shape.ways
     → evicted shape line held ≡ gone
     → IsFine shape (slot + 1) posted c (drop_shared gone held) (Some (new_want line kind slot (victim_of gone) access)) (append_victim (victim_of gone) backs) status
-fine_missed shape slot posted c held backs status line kind access None f runs denied some is = missed_none shape slot posted c held backs status line kind access f runs denied some is
-fine_missed shape slot posted c held backs status line kind access (Some (gone, Shared)) f runs denied some is = missed_shared shape slot posted c held backs status line kind access gone f runs denied is
-fine_missed shape slot posted c held backs status line kind access (Some (gone, Modified)) f runs denied some is = missed_modified shape slot posted c held backs status line kind access gone f runs denied is
+fine_missed shape slot posted c held backs status line kind access None f runs denied some is =
+    missed_none shape slot posted c held backs status line kind access f runs denied some is
+fine_missed shape slot posted c held backs status line kind access (Some (gone, Shared)) f runs denied some is =
+    missed_shared shape slot posted c held backs status line kind access gone f runs denied is
+fine_missed shape slot posted c held backs status line kind access (Some (gone, Modified)) f runs denied some is =
+    missed_modified shape slot posted c held backs status line kind access gone f runs denied is

@@ -19,7 +19,8 @@ use Rattle.coherence_laws.proofs.Fine.{IsWantFine, IsFine, FineCore, at_some}
 -- ---- another core posts
 
 -- who doesn't own the line
-fine_posted_else : (shape : Geometry) (slot : ℕ) (posted : List Request) (d : ℕ) (held : List (ℕ × Mode)) (want : Option Want) (backs : List ℕ) (status : Status) (r : Request)
+fine_posted_else : (shape : Geometry) (slot : ℕ) (posted : List Request) (d : ℕ) (held : List (ℕ × Mode)) (want : Option Want)
+    (backs : List ℕ) (status : Status) (r : Request)
     → IsFine shape slot posted d held want backs status → r.core ≢ d → mode_of r.line held ≢ Some Modified
     → IsFine shape slot (posted ++ r ∷ []) d held want backs status
 fine_posted_else shape slot posted d held want backs status r f other unowned = record {
@@ -37,7 +38,8 @@ room_left : (shape : Geometry) (line other : ℕ) (held : List (ℕ × Mode)) (v
     → length (set_lines shape other held) ≤ shape.ways → mode_of line held ≢ None
     → ((mode_of other held ≢ None) ⊎ ((length (set_lines shape other held) < shape.ways) ⊎ (victim ≢ None)))
     → ((mode_of other (without line held) ≢ None) ⊎ ((length (set_lines shape other (without line held)) < shape.ways) ⊎ (victim ≢ None)))
-room_left shape line other held victim within here room = grind (arith, mode_without other line held, fewer_without shape other line held, room_without shape other line held)
+room_left shape line other held victim within here room =
+    grind (arith, mode_without other line held, fewer_without shape other line held, room_without shape other line held)
 
 want_without : (shape : Geometry) (slot line : ℕ) (held : List (ℕ × Mode)) (backs : List ℕ) (status : Status) (want : Want)
     → IsWantFine shape slot held backs status want → mode_of line held ≡ Some Shared
@@ -57,7 +59,8 @@ want_without shape slot line held backs status want w shared within = record {
 }
 
 -- a shared copy is lost
-fine_without : (shape : Geometry) (slot : ℕ) (posted : List Request) (d : ℕ) (held : List (ℕ × Mode)) (want : Option Want) (backs : List ℕ) (status : Status) (line : ℕ)
+fine_without : (shape : Geometry) (slot : ℕ) (posted : List Request) (d : ℕ) (held : List (ℕ × Mode)) (want : Option Want) (backs : List ℕ)
+    (status : Status) (line : ℕ)
     → IsFine shape slot posted d held want backs status → mode_of line held ≡ Some Shared
     → IsFine shape slot posted d (without line held) want backs status
 fine_without shape slot posted d held want backs status line f shared = record {
@@ -89,7 +92,8 @@ want_longer shape slot line held backs status want w = record {
 }
 
 -- who owns the line has to write it back
-fine_posted_owner : (shape : Geometry) (slot : ℕ) (posted : List Request) (d : ℕ) (held : List (ℕ × Mode)) (want : Option Want) (backs : List ℕ) (status : Status) (r : Request)
+fine_posted_owner : (shape : Geometry) (slot : ℕ) (posted : List Request) (d : ℕ) (held : List (ℕ × Mode)) (want : Option Want)
+    (backs : List ℕ) (status : Status) (r : Request)
     → IsFine shape slot posted d held want backs status → r.core ≢ d → mode_of r.line held ≡ Some Modified
     → IsFine shape slot (posted ++ r ∷ []) d held want (append_once r.line backs) status
 fine_posted_owner shape slot posted d held want backs status r f other owner = record {
@@ -107,7 +111,8 @@ pub fine_noted : (shape : Geometry) (slot : ℕ) (posted : List Request) (d : �
     → FineCore shape slot posted d k → r.core ≢ d → mode_of r.line k.held ≡ mode
     → FineCore shape slot (posted ++ r ∷ []) d (noted_post_in kind r.line mode k)
 fine_noted shape slot posted d k r kind None f other is = fine_posted_else shape slot posted d k.held k.want k.write_backs k.status r f other (λ owned. grind arith)
-fine_noted shape slot posted d k r Read (Some Shared) f other is = fine_posted_else shape slot posted d k.held k.want k.write_backs k.status r f other (λ owned. grind arith)
+fine_noted shape slot posted d k r Read (Some Shared) f other is =
+    fine_posted_else shape slot posted d k.held k.want k.write_backs k.status r f other (λ owned. grind arith)
 fine_noted shape slot posted d k r Write (Some Shared) f other is =
     fine_posted_else shape slot posted d (without r.line k.held) k.want k.write_backs k.status r (fine_without shape slot posted d k.held k.want k.write_backs k.status r.line f is) other
     (λ owned. grind (arith, mode_without r.line r.line k.held))
@@ -149,7 +154,8 @@ fine_post shape slot posted c held want backs status r f unposted free mine = le
 
 -- ---- another core's request is filled
 
-pub fine_rest : (shape : Geometry) (slot : ℕ) (posted : List Request) (c d : ℕ) (held : List (ℕ × Mode)) (want : Option Want) (backs : List ℕ) (status : Status) (r : Request)
+pub fine_rest : (shape : Geometry) (slot : ℕ) (posted : List Request) (c d : ℕ) (held : List (ℕ × Mode)) (want : Option Want)
+    (backs : List ℕ) (status : Status) (r : Request)
     → IsFine shape slot posted d held want backs status → d ≢ c → RequestsOnce posted → request_of c posted ≡ Some r
     → mode_of r.line held ≢ Some Modified
     → IsFine shape slot (removed c posted) d held want backs status

@@ -46,11 +46,13 @@ WholeAfter job x c action = IsWhole job.shape (x.slot + 1) (after_action x c act
 
 served_now : (job : JobValue) (x : Machine) (c : ℕ) (want : Want) → (x.cores c).want ≡ Some want → is_some want.post ≡ true
     → requests_now job x c ≡ true → nobody_owns x job.shape.cores want.line ≡ true
-served_now job x c want is posted now = let can : can_request_for job x c (Some want) ≡ true = subst (λ o. can_request_for job x c o ≡ true) is (grind arith) in grind arith
+served_now job x c want is posted now =
+    let can : can_request_for job x c (Some want) ≡ true = subst (λ o. can_request_for job x c o ≡ true) is (grind arith) in grind arith
 
 unposted_now : (job : JobValue) (x : Machine) (c : ℕ) (want : Want) → (x.cores c).want ≡ Some want → is_some want.post ≡ false
     → requests_now job x c ≡ true → want.victim ≡ None
-unposted_now job x c want is posted now = let can : can_request_for job x c (Some want) ≡ true = subst (λ o. can_request_for job x c o ≡ true) is (grind arith) in grind arith
+unposted_now job x c want is posted now =
+    let can : can_request_for job x c (Some want) ≡ true = subst (λ o. can_request_for job x c o ≡ true) is (grind arith) in grind arith
 
 post_fill_whole : (job : JobValue) (x : Machine) (c : ℕ) (want : Want) → IsWhole job.shape (x.slot + 1) x.posted x.cores
     → c < job.shape.cores → (x.cores c).want ≡ Some want → want.post ≡ None → want.victim ≡ None
@@ -126,7 +128,8 @@ slot_whole job x cores ways w =
     let y : Machine = after_phases job x in
     let c : ℕ = owner_of_slot (plan_of job) x.slot in
     let same : y.slot ≡ x.slot = phases-slot job job.shape.cores x in
-    let before : IsWhole job.shape (x.slot + 1) y.posted y.cores = phases_whole job job.shape.cores x ways (omega arith) (whole_later job.shape x.slot x.posted x.cores w) in
+    let before : IsWhole job.shape (x.slot + 1) y.posted y.cores =
+        phases_whole job job.shape.cores x ways (omega arith) (whole_later job.shape x.slot x.posted x.cores w) in
     subst (λ (s : ℕ). IsWhole job.shape (s + 1) (after_action y c (action_of job y c)).posted (after_action y c (action_of job y c)).cores) same
     (action_whole job y c (subst (λ (s : ℕ). IsWhole job.shape (s + 1) y.posted y.cores) (sym same) before) (mod_below x.slot job.shape.cores cores))
 
@@ -147,7 +150,8 @@ phases_at job is slot count within =
 
 pub phases_coherent : (job : JobValue) → IsJob job → (slot count : ℕ) → count ≤ job.shape.cores
     → IsCoherent job.shape (record (phases job count (machine_at job slot)) { slot = slot + 1 })
-phases_coherent job is slot count within = whole_coherent job.shape (record (phases job count (machine_at job slot)) { slot = slot + 1 }) (phases_at job is slot count within)
+phases_coherent job is slot count within =
+    whole_coherent job.shape (record (phases job count (machine_at job slot)) { slot = slot + 1 }) (phases_at job is slot count within)
 
 pub stays_coherent : StaysCoherent
 stays_coherent job is slot = whole_coherent job.shape (machine_at job slot) (whole_at job is slot)

@@ -85,7 +85,8 @@ pub writes_from : (posted rest : List Request) (old new : ℕ → CoreState) →
     → ((c : ℕ) (r : Request) → request_of c rest ≡ Some r → request_of c posted ≡ Some r)
     → ((d l : ℕ) → mode_of l (new d).held ≡ Some Shared → (mode_of l (old d).held ≡ Some Shared) ⊎ (has_write l rest ≡ false))
     → WritesAlone rest new
-writes_from posted rest old new alone less shared c d r is write other here = grind (arith, shared d r.line here, write_queued c rest r is write, alone c d r (less c r is) write other)
+writes_from posted rest old new alone less shared c d r is write other here =
+    grind (arith, shared d r.line here, write_queued c rest r is write, alone c d r (less c r is) write other)
 
 -- each line is held as before or not at all
 abbrev pub IsLess : CoreState → CoreState → Type 0

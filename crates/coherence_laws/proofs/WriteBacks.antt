@@ -60,7 +60,8 @@ want_back_else : (shape : Geometry) (slot line : ℕ) (held after : List (ℕ ×
     → IsWantFine shape slot held (line ∷ lines) status want
     → IsWritten shape line held after → want.victim ≢ Some line → mode_of line held ≡ Some Modified
     → IsWantFine shape slot after lines status want
-want_back_else shape slot line held after lines status want w x not_it owner = let other : want.line ≢ line = (λ same. grind (arith, w.read_unheld, w.write_unowned)) in
+want_back_else shape slot line held after lines status want w x not_it owner =
+    let other : want.line ≢ line = (λ same. grind (arith, w.read_unheld, w.write_unowned)) in
     let same : mode_of want.line after ≡ mode_of want.line held = x.others want.line other in record {
       read_unheld = λ read. grind (arith, w.read_unheld read);
       write_unowned = λ write owned. grind (arith, w.write_unowned write);
@@ -104,11 +105,13 @@ wants_back shape slot line held after lines status (Some want) f x owner room w 
     at_some (IsWantFine shape slot after lines status) (clear_victim line want) w (want_back shape slot line held after lines status want (f want refl) x owner (room want refl)) is
 
 -- the line of a write-back waits first, and its core owns it
-pub fine_back_in : (shape : Geometry) (slot : ℕ) (posted : List Request) (c : ℕ) (held after : List (ℕ × Mode)) (want : Option Want) (line : ℕ) (lines : List ℕ) (status : Status)
+pub fine_back_in : (shape : Geometry) (slot : ℕ) (posted : List Request) (c : ℕ) (held after : List (ℕ × Mode)) (want : Option Want)
+    (line : ℕ) (lines : List ℕ) (status : Status)
     → IsFine shape slot posted c held want (line ∷ lines) status → IsWritten shape line held after
     → ((w : Want) → want ≡ Some w → w.victim ≡ Some line → length (set_lines shape w.line after) < shape.ways)
     → IsFine shape slot posted c after (option_map (clear_victim line) want) lines status
-fine_back_in shape slot posted c held after want line lines status f x room = let owner : mode_of line held ≡ Some Modified = f.back_owned line (grind arith) in record {
+fine_back_in shape slot posted c held after want line lines status f x room =
+    let owner : mode_of line held ≡ Some Modified = f.back_owned line (grind arith) in record {
   held_once = x.once;
   held_within = λ l. grind (arith, x.within l, f.held_within l);
   posted_wants = f.posted_wants ∙ sym (request_cleared c line want);
@@ -119,7 +122,8 @@ fine_back_in shape slot posted c held after want line lines status f x room = le
   want_fine = wants_back shape slot line held after lines status want f.want_fine x owner room;
 }
 
-pub fine_back : (shape : Geometry) (slot : ℕ) (posted : List Request) (c : ℕ) (held : List (ℕ × Mode)) (want : Option Want) (line : ℕ) (lines : List ℕ) (status : Status) (kept : Bool)
+pub fine_back : (shape : Geometry) (slot : ℕ) (posted : List Request) (c : ℕ) (held : List (ℕ × Mode)) (want : Option Want) (line : ℕ)
+    (lines : List ℕ) (status : Status) (kept : Bool)
     → IsFine shape slot posted c held want (line ∷ lines) status → (kept ≡ true → has_victim_for line want ≡ false)
     → IsFine shape slot posted c (if kept then with_mode line Shared held else without line held) (option_map (clear_victim line) want) lines status
 fine_back shape slot posted c held want line lines status kept f stays =

@@ -67,7 +67,8 @@ nobody_none x (suc count) line nobody = grind (arith, nobody_none x count line)
 owner_case : (x : Machine) (count line c : ℕ) → c < count → mode_in x c line ≡ Some Modified
     → ((d : ℕ) → d ≢ c → mode_in x d line ≢ Some Modified) → (o : Option ℕ) → owner_of x count line ≡ o → o ≡ Some c
 owner_case x count line c below owned alone None is = absurd (nobody_below x count line (owner_none x count line is) c below owned)
-owner_case x count line c below owned alone (Some d) is = dite (ℕ_discrete d c) (λ same. ap (λ (n : ℕ). Some n) same) (λ other. absurd (alone d other (owner_mode x count line d is)))
+owner_case x count line c below owned alone (Some d) is =
+    dite (ℕ_discrete d c) (λ same. ap (λ (n : ℕ). Some n) same) (λ other. absurd (alone d other (owner_mode x count line d is)))
 
 -- a core that owns the line alone is its owner
 pub owner_is : (x : Machine) (count line c : ℕ) → c < count → mode_in x c line ≡ Some Modified

@@ -83,7 +83,8 @@ first_some line (x ∷ rs) = grind (arith, first_some line rs)
 pub first_request : (c line : ℕ) (rs : List Request) → RequestsOnce rs → first_of line rs ≡ Some c
     → (r : Request) × (request_of c rs ≡ Some r) × (r.line ≡ line)
 first_request c line [] once first = absurd (grind arith)
-first_request c line (x ∷ rs) once first = by_test (λ o. o ≡ Some c → (r : Request) × (request_of c (x ∷ rs) ≡ Some r) × (r.line ≡ line)) (x.line == line) (Some x.core) (first_of line rs)
+first_request c line (x ∷ rs) once first =
+    by_test (λ o. o ≡ Some c → (r : Request) × (request_of c (x ∷ rs) ≡ Some r) × (r.line ≡ line)) (x.line == line) (Some x.core) (first_of line rs)
     (λ here is. (x, grind arith, grind arith))
     (λ other is. let later = first_request c line rs once.1 is in (later.0, grind (arith, later.1, once.0), later.2))
     first
