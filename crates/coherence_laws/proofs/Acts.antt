@@ -86,7 +86,7 @@ filled_alone : (old new : ℕ → CoreState) (c line : ℕ) → OwnedAlone old �
 filled_alone old new c line alone others own unowned taken a b l owned apart = dite (ℕ_discrete l line)
     (λ here. let owned' : mode_of line (new a).held ≡ Some Modified = subst (λ (n : ℕ). mode_of n (new a).held ≡ Some Modified) here owned in
     let a_is : a ≡ c =
-        dite (ℕ_discrete a c) (λ same. same) (λ other. absurd (unowned a (ap (λ (k : CoreState). mode_of line k.held) (sym (others a other)) ∙ owned'))) in
+    dite (ℕ_discrete a c) (λ same. same) (λ other. absurd (unowned a (ap (λ (k : CoreState). mode_of line k.held) (sym (others a other)) ∙ owned'))) in
     let b_not : b ≢ c = (λ same. apart (same ∙ sym a_is)) in
     let at_c : mode_of line (new c).held ≡ Some Modified = subst (λ (n : ℕ). mode_of line (new n).held ≡ Some Modified) a_is owned' in
     let nothing : mode_of line (old b).held ≡ None = grind (arith, taken at_c b b_not, unowned b) in

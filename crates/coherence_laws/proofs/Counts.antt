@@ -43,7 +43,7 @@ lines_within [] [] once each = omega arith
 lines_within [] (l ∷ lines) once each = absurd (grind (arith, each l))
 lines_within (r ∷ rs) lines once each =
     let fewer : length (without_line r.line lines) ≤ length rs =
-        lines_within rs (without_line r.line lines) (lines_once_less r.line lines once) (λ l has. grind (arith, line_less l r.line lines, each l)) in
+    lines_within rs (without_line r.line lines) (lines_once_less r.line lines once) (λ l has. grind (arith, line_less l r.line lines, each l)) in
     let counts = line_count r.line lines once in grind arith
 
 -- ---- requests, one a core
@@ -57,7 +57,7 @@ requests_within zero [] once none = omega arith
 requests_within zero (r ∷ rs) once none = absurd (let n : request_of r.core (r ∷ rs) ≡ None = none r.core (omega arith) in grind arith)
 requests_within (suc count) rs once none =
     let fewer : length (removed count rs) ≤ count =
-        requests_within count (removed count rs) (requests_once_less count rs once) (λ c past. grind (arith, request_less c count rs, none c)) in
+    requests_within count (removed count rs) (requests_once_less count rs once) (λ c past. grind (arith, request_less c count rs, none c)) in
     let counts = request_count count rs once in omega arith
 
 -- where a core has none there is room for one more
@@ -66,7 +66,7 @@ requests_below : (count : ℕ) (rs : List Request) (d : ℕ) → RequestsOnce rs
 requests_below count rs d once none below free =
     let r : Request = record { core = d; line = 0; kind = Read } in
     let all : length (rs ++ r ∷ []) ≤ count =
-        requests_within count (rs ++ r ∷ []) (requests_once_more rs r once free) (λ c past. grind (arith, request_more c rs r, none c past)) in
+    requests_within count (rs ++ r ∷ []) (requests_once_more rs r once free) (λ c past. grind (arith, request_more c rs r, none c past)) in
     omega (arith, length-append rs (r ∷ []))
 
 -- ---- the lines of a core
@@ -82,16 +82,16 @@ backs_within : (shape : Geometry) (slot : ℕ) (posted : List Request) (cores : 
 backs_within shape slot posted cores c None w below is = let f = w.fine c in
     let lines : length (cores c).write_backs ≤ length posted = lines_within posted (cores c).write_backs f.back_once (λ l has. grind (arith, f.back_due l has)) in
     let requests : length posted ≤ shape.cores =
-        requests_within shape.cores posted w.once (λ d past. (w.fine d).posted_wants ∙ ap (posted_request d) (w.idle d past)) in
+    requests_within shape.cores posted w.once (λ d past. (w.fine d).posted_wants ∙ ap (posted_request d) (w.idle d past)) in
     omega arith
 backs_within shape slot posted cores c (Some victim) w below is = let f = w.fine c in
     let backs : List ℕ = (cores c).write_backs in
     let lines : length (without_line victim backs) ≤ length posted =
-        lines_within posted (without_line victim backs) (lines_once_less victim backs f.back_once) (λ l has. grind (arith, line_less l victim backs, f.back_due l)) in
+    lines_within posted (without_line victim backs) (lines_once_less victim backs f.back_once) (λ l has. grind (arith, line_less l victim backs, f.back_due l)) in
     let free : request_of c posted ≡ None =
-        f.posted_wants ∙ victim_unposted c (cores c).want victim (λ v wants of. (f.want_fine v wants).victim_unposted victim of) is in
+    f.posted_wants ∙ victim_unposted c (cores c).want victim (λ v wants of. (f.want_fine v wants).victim_unposted victim of) is in
     let requests : length posted + 1 ≤ shape.cores =
-        requests_below shape.cores posted c w.once (λ d past. (w.fine d).posted_wants ∙ ap (posted_request d) (w.idle d past)) below free in
+    requests_below shape.cores posted c w.once (λ d past. (w.fine d).posted_wants ∙ ap (posted_request d) (w.idle d past)) below free in
     let counts = line_count victim backs f.back_once in omega arith
 
 none_listed : (lines : List ℕ) → ((l : ℕ) → has_line l lines ≢ true) → length lines ≡ 0

@@ -35,7 +35,7 @@ filled_within : (shape : Geometry) (l line : ℕ) (mode : Mode) (held : List (�
     → length (set_lines shape l (to_front line mode held)) ≤ shape.ways
 filled_within shape l line mode held within room =
     let h : (if set_of shape line == set_of shape l then 1 else 0) + length (set_lines shape l (without line held)) ≤ shape.ways =
-        by_test (λ (n : ℕ). n + length (set_lines shape l (without line held)) ≤ shape.ways) (set_of shape line == set_of shape l) 1 0
+    by_test (λ (n : ℕ). n + length (set_lines shape l (without line held)) ≤ shape.ways) (set_of shape line == set_of shape l) 1 0
     (λ same. let e : set_of shape line ≡ set_of shape l = grind arith in
     let n : length (set_lines shape line held) ≡ length (set_lines shape l held) = ap (λ (s : ℕ). length (filter (λ h. set_of shape h.0 == s) held)) e in
     grind (arith, fewer_without shape l line held, room_without shape l line held))

@@ -182,17 +182,17 @@ missed_shared : (shape : Geometry) (slot : ℕ) (posted : List Request) (c : ℕ
     → IsFine shape (slot + 1) posted c (without gone held) (Some (new_want line kind slot None access)) backs status
 missed_shared shape slot posted c held backs status line kind access gone f runs denied is =
     let e = evicted_held shape line held (gone, Shared) f.held_once is in record {
-  held_once = once_without gone held f.held_once;
-  held_within = λ l. grind (arith, fewer_without shape l gone held, f.held_within l);
-  posted_wants = f.posted_wants;
-  demanded_waits = λ l owned. f.demanded_waits l (grind (arith, mode_without l gone held));
-  back_once = f.back_once;
-  back_owned = λ l has. grind (arith, mode_without l gone held, f.back_owned l has, e.0);
-  back_due = λ l has. grind (arith, f.back_due l has);
-  want_fine = λ w same. subst (IsWantFine shape (slot + 1) (without gone held) backs status) (grind arith)
-      (want_new shape slot line kind access None (without gone held) backs status (grind (arith, mode_without line gone held, e.2)) runs (λ v none. absurd (grind arith))
-      (inr (inl (grind (arith, room_without shape line gone held, f.held_within line, e.0, e.1)))));
-}
+      held_once = once_without gone held f.held_once;
+      held_within = λ l. grind (arith, fewer_without shape l gone held, f.held_within l);
+      posted_wants = f.posted_wants;
+      demanded_waits = λ l owned. f.demanded_waits l (grind (arith, mode_without l gone held));
+      back_once = f.back_once;
+      back_owned = λ l has. grind (arith, mode_without l gone held, f.back_owned l has, e.0);
+      back_due = λ l has. grind (arith, f.back_due l has);
+      want_fine = λ w same. subst (IsWantFine shape (slot + 1) (without gone held) backs status) (grind arith)
+          (want_new shape slot line kind access None (without gone held) backs status (grind (arith, mode_without line gone held, e.2)) runs (λ v none. absurd (grind arith))
+          (inr (inl (grind (arith, room_without shape line gone held, f.held_within line, e.0, e.1)))));
+    }
 
 -- a modified line becomes the victim
 missed_modified : (shape : Geometry) (slot : ℕ) (posted : List Request) (c : ℕ) (held : List (ℕ × Mode)) (backs : List ℕ) (status : Status)
@@ -202,18 +202,18 @@ missed_modified : (shape : Geometry) (slot : ℕ) (posted : List Request) (c : �
     → IsFine shape (slot + 1) posted c held (Some (new_want line kind slot (Some gone) access)) (append_once gone backs) status
 missed_modified shape slot posted c held backs status line kind access gone f runs denied is =
     let e = evicted_held shape line held (gone, Modified) f.held_once is in record {
-  held_once = f.held_once;
-  held_within = f.held_within;
-  posted_wants = f.posted_wants;
-  demanded_waits = λ l owned asked. grind (arith, line_append_once l gone backs, f.demanded_waits l owned asked);
-  back_once = once_append_once gone backs f.back_once;
-  back_owned = λ l has. grind (arith, line_append_once l gone backs, f.back_owned l, e.0);
-  back_due = λ l has. grind (arith, line_append_once l gone backs, f.back_due l);
-  want_fine = λ w same. subst (IsWantFine shape (slot + 1) held (append_once gone backs) status) (grind arith)
-      (want_new shape slot line kind access (Some gone) held (append_once gone backs) status denied runs
-      (λ v which. (grind (arith, e.0), grind (arith, line_append_once v gone backs), grind (arith, e.1), grind (arith, e.0, e.2)))
-      (inr (inr (grind arith))));
-}
+      held_once = f.held_once;
+      held_within = f.held_within;
+      posted_wants = f.posted_wants;
+      demanded_waits = λ l owned asked. grind (arith, line_append_once l gone backs, f.demanded_waits l owned asked);
+      back_once = once_append_once gone backs f.back_once;
+      back_owned = λ l has. grind (arith, line_append_once l gone backs, f.back_owned l, e.0);
+      back_due = λ l has. grind (arith, line_append_once l gone backs, f.back_due l);
+      want_fine = λ w same. subst (IsWantFine shape (slot + 1) held (append_once gone backs) status) (grind arith)
+          (want_new shape slot line kind access (Some gone) held (append_once gone backs) status denied runs
+          (λ v which. (grind (arith, e.0), grind (arith, line_append_once v gone backs), grind (arith, e.1), grind (arith, e.0, e.2)))
+          (inr (inr (grind arith))));
+    }
 
 pub fine_missed : (shape : Geometry) (slot : ℕ) (posted : List Request) (c : ℕ) (held : List (ℕ × Mode)) (backs : List ℕ) (status : Status)
     (line : ℕ) (kind : Kind) (access : Access) (gone : Option (ℕ × Mode))

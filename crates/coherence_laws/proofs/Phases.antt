@@ -98,7 +98,7 @@ unfolding phase
 phase_whole job c x some below w =
     let k : CoreState = (instructions job.shape x.slot (text_of job c) job.shape.quantum (context_of x c)).core in
     let kept : IsKept job.shape (x.slot + 1) x.posted c (x.cores c) k =
-        instructions_kept job.shape x.slot (text_of job c) x.posted c job.shape.quantum (context_of x c) some (w.fine c) in
+    instructions_kept job.shape x.slot (text_of job c) x.posted c job.shape.quantum (context_of x c) some (w.fine c) in
     whole_less job.shape (x.slot + 1) x.posted x.cores c k w below kept.fine kept.less
 
 pub phases_whole : (job : JobValue) (count : ℕ) (x : Machine) → 1 ≤ job.shape.ways → count ≤ job.shape.cores

@@ -129,7 +129,7 @@ slot_whole job x cores ways w =
     let c : ℕ = owner_of_slot (plan_of job) x.slot in
     let same : y.slot ≡ x.slot = phases-slot job job.shape.cores x in
     let before : IsWhole job.shape (x.slot + 1) y.posted y.cores =
-        phases_whole job job.shape.cores x ways (omega arith) (whole_later job.shape x.slot x.posted x.cores w) in
+    phases_whole job job.shape.cores x ways (omega arith) (whole_later job.shape x.slot x.posted x.cores w) in
     subst (λ (s : ℕ). IsWhole job.shape (s + 1) (after_action y c (action_of job y c)).posted (after_action y c (action_of job y c)).cores) same
     (action_whole job y c (subst (λ (s : ℕ). IsWhole job.shape (s + 1) y.posted y.cores) (sym same) before) (mod_below x.slot job.shape.cores cores))
 

@@ -112,15 +112,15 @@ pub fine_back_in : (shape : Geometry) (slot : ℕ) (posted : List Request) (c : 
     → IsFine shape slot posted c after (option_map (clear_victim line) want) lines status
 fine_back_in shape slot posted c held after want line lines status f x room =
     let owner : mode_of line held ≡ Some Modified = f.back_owned line (grind arith) in record {
-  held_once = x.once;
-  held_within = λ l. grind (arith, x.within l, f.held_within l);
-  posted_wants = f.posted_wants ∙ sym (request_cleared c line want);
-  demanded_waits = λ l owned asked. grind (arith, x.here, x.others l, f.demanded_waits l);
-  back_once = f.back_once.1;
-  back_owned = λ l has. grind (arith, x.others l, f.back_owned l, f.back_once.0);
-  back_due = λ l has. grind (arith, f.back_due l, f.back_once.0, victim_cleared line want l);
-  want_fine = wants_back shape slot line held after lines status want f.want_fine x owner room;
-}
+      held_once = x.once;
+      held_within = λ l. grind (arith, x.within l, f.held_within l);
+      posted_wants = f.posted_wants ∙ sym (request_cleared c line want);
+      demanded_waits = λ l owned asked. grind (arith, x.here, x.others l, f.demanded_waits l);
+      back_once = f.back_once.1;
+      back_owned = λ l has. grind (arith, x.others l, f.back_owned l, f.back_once.0);
+      back_due = λ l has. grind (arith, f.back_due l, f.back_once.0, victim_cleared line want l);
+      want_fine = wants_back shape slot line held after lines status want f.want_fine x owner room;
+    }
 
 pub fine_back : (shape : Geometry) (slot : ℕ) (posted : List Request) (c : ℕ) (held : List (ℕ × Mode)) (want : Option Want) (line : ℕ)
     (lines : List ℕ) (status : Status) (kept : Bool)
