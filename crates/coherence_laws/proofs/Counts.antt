@@ -1,17 +1,15 @@
--- How many lines a core has to write back, and how many requests there are.
-use Rattle.std.proofs.Common.{◌≡◌, ◌≢◌, ℕ, zero, suc, ◌+◌, ◌<◌, ◌≤◌, List, [], ◌∷◌, ◌++◌, length, Option, Some, None, true, false, not, ◌==◌, ◌&&◌, refl, ap, ◌∙◌, arith}
+-- How many lines a core has to write back.
+use Rattle.std.proofs.Common.{◌≡◌, ◌≢◌, ℕ, ◌+◌, ◌<◌, ◌≤◌, List, [], ◌∷◌, length, Option, Some, None, true, false, not, ◌==◌, ◌&&◌, refl, ap, ◌∙◌, arith}
 use mathlib.Core.Logic.{dite}
 use native.Mathlib.Decide.{dec_le}
 use Rattle.std.specs.List.{filter}
-use Rattle.std.proofs.Common.{length-append}
 use Rattle.pmsi_model.specs.declared.job.Geometry.{Geometry}
-use Rattle.pmsi_model.specs.declared.Kind.TheVariants.{Read}
 use Rattle.pmsi_model.specs.declared.Want.{Want}
-use Rattle.pmsi_model.specs.Machine.{Request, CoreState, mode_of, has_line, has_request, request_of, removed}
+use Rattle.pmsi_model.specs.Machine.{Request, CoreState, mode_of, has_line, has_request, request_of}
 use Rattle.pmsi_model.specs.Run.{machine_at}
-use Rattle.pmsi_model.specs.Coherent.{ListsEachOnce, RequestsOnce, posted_request, victim_in}
+use Rattle.pmsi_model.specs.Coherent.{ListsEachOnce, posted_request, victim_in}
 use Rattle.coherence_laws.specs.Laws.{WriteBacksFit}
-use Rattle.pmsi_model.proofs.Requests.{request_more, request_less, removed_none, requests_once_more, requests_once_less}
+use Rattle.pmsi_model.proofs.Requests.{requests_within, requests_below}
 use Rattle.coherence_laws.proofs.Whole.{IsWhole}
 use Rattle.coherence_laws.proofs.Slots.{whole_at}
 
@@ -46,29 +44,6 @@ lines_within (r ∷ rs) lines once each =
     lines_within rs (without_line r.line lines) (lines_once_less r.line lines once) (λ l has. grind (arith, line_less l r.line lines, each l)) in
     let counts = line_count r.line lines once in grind arith
 
--- ---- requests, one a core
-
-request_count : (c : ℕ) (rs : List Request) → RequestsOnce rs → length rs ≤ length (removed c rs) + 1
-request_count c [] once = grind arith
-request_count c (r ∷ rs) once = grind (arith, request_count c rs once.1, removed_none c rs, once.0)
-
-requests_within : (count : ℕ) (rs : List Request) → RequestsOnce rs → ((c : ℕ) → count ≤ c → request_of c rs ≡ None) → length rs ≤ count
-requests_within zero [] once none = omega arith
-requests_within zero (r ∷ rs) once none = absurd (let n : request_of r.core (r ∷ rs) ≡ None = none r.core (omega arith) in grind arith)
-requests_within (suc count) rs once none =
-    let fewer : length (removed count rs) ≤ count =
-    requests_within count (removed count rs) (requests_once_less count rs once) (λ c past. grind (arith, request_less c count rs, none c)) in
-    let counts = request_count count rs once in omega arith
-
--- where a core has none there is room for one more
-requests_below : (count : ℕ) (rs : List Request) (d : ℕ) → RequestsOnce rs → ((c : ℕ) → count ≤ c → request_of c rs ≡ None) → d < count
-    → request_of d rs ≡ None → length rs + 1 ≤ count
-requests_below count rs d once none below free =
-    let r : Request = record { core = d; line = 0; kind = Read } in
-    let all : length (rs ++ r ∷ []) ≤ count =
-    requests_within count (rs ++ r ∷ []) (requests_once_more rs r once free) (λ c past. grind (arith, request_more c rs r, none c past)) in
-    omega (arith, length-append rs (r ∷ []))
-
 -- ---- the lines of a core
 
 victim_unposted : (c : ℕ) (want : Option Want) (victim : ℕ) → ((w : Want) → want ≡ Some w → w.victim ≡ Some victim → w.post ≡ None)
@@ -76,13 +51,21 @@ victim_unposted : (c : ℕ) (want : Option Want) (victim : ℕ) → ((w : Want) 
 victim_unposted c None victim unposted is = refl
 victim_unposted c (Some w) victim unposted is = let none : w.post ≡ None = unposted w refl is in grind arith
 
+no_request : (shape : Geometry) (slot : ℕ) (posted : List Request) (cores : ℕ → CoreState) → IsWhole shape slot posted cores → (d : ℕ)
+    → shape.cores ≤ d → request_of d posted ≡ None
+no_request shape slot posted cores w d past = (w.fine d).posted_wants ∙ ap (posted_request d) (w.idle d past)
+
+-- at most as many requests are posted as there are cores
+pub posted_within : (shape : Geometry) (slot : ℕ) (posted : List Request) (cores : ℕ → CoreState) → IsWhole shape slot posted cores
+    → length posted ≤ shape.cores
+posted_within shape slot posted cores w = requests_within shape.cores posted w.once (no_request shape slot posted cores w)
+
 backs_within : (shape : Geometry) (slot : ℕ) (posted : List Request) (cores : ℕ → CoreState) (c : ℕ) (victim : Option ℕ)
     → IsWhole shape slot posted cores → c < shape.cores → victim_in (cores c).want ≡ victim
     → length (cores c).write_backs ≤ shape.cores
 backs_within shape slot posted cores c None w below is = let f = w.fine c in
     let lines : length (cores c).write_backs ≤ length posted = lines_within posted (cores c).write_backs f.back_once (λ l has. grind (arith, f.back_due l has)) in
-    let requests : length posted ≤ shape.cores =
-    requests_within shape.cores posted w.once (λ d past. (w.fine d).posted_wants ∙ ap (posted_request d) (w.idle d past)) in
+    let requests : length posted ≤ shape.cores = posted_within shape slot posted cores w in
     omega arith
 backs_within shape slot posted cores c (Some victim) w below is = let f = w.fine c in
     let backs : List ℕ = (cores c).write_backs in
@@ -91,7 +74,7 @@ backs_within shape slot posted cores c (Some victim) w below is = let f = w.fine
     let free : request_of c posted ≡ None =
     f.posted_wants ∙ victim_unposted c (cores c).want victim (λ v wants of. (f.want_fine v wants).victim_unposted victim of) is in
     let requests : length posted + 1 ≤ shape.cores =
-    requests_below shape.cores posted c w.once (λ d past. (w.fine d).posted_wants ∙ ap (posted_request d) (w.idle d past)) below free in
+    requests_below shape.cores posted c w.once (no_request shape slot posted cores w) below free in
     let counts = line_count victim backs f.back_once in omega arith
 
 none_listed : (lines : List ℕ) → ((l : ℕ) → has_line l lines ≢ true) → length lines ≡ 0

@@ -1,6 +1,6 @@
 -- What the readers of the posted requests say after a request is added or removed.
-use Rattle.std.proofs.Common.{◌≡◌, ◌≢◌, ℕ, ◌+◌, ◌≤◌, length, List, [], ◌∷◌, ◌++◌, Some, None, is_some, true, ◌==◌, ◌&&◌, ◌||◌, if◌then◌else◌, refl, arith}
-use Rattle.pmsi_model.specs.declared.Kind.TheVariants.{Write}
+use Rattle.std.proofs.Common.{◌≡◌, ◌≢◌, ℕ, ◌+◌, ◌≤◌, length, List, [], ◌∷◌, ◌++◌, Some, None, is_some, true, ◌==◌, ◌&&◌, ◌||◌, if◌then◌else◌, refl, arith, zero, suc, ◌<◌, length-append}
+use Rattle.pmsi_model.specs.declared.Kind.TheVariants.{Read, Write}
 use Rattle.pmsi_model.specs.Machine.{Request, is_write, first_of, has_request, has_write, ahead, request_of, removed}
 use Rattle.pmsi_model.specs.Coherent.{RequestsOnce}
 use Rattle.pmsi_model.proofs.Cases.{by_test}
@@ -107,11 +107,10 @@ pub ahead_new : (line : ℕ) (rs : List Request) (r : Request) → request_of r.
 ahead_new line [] r none = grind arith
 ahead_new line (x ∷ rs) r none = grind (arith, ahead_new line rs r)
 
--- none is ahead of the first alone
-pub ahead_first : (c line : ℕ) (rs : List Request) → first_of line rs ≡ Some c → RequestsOnce rs → ahead c line rs ≡ 0
-ahead_first c line [] first once = refl
-ahead_first c line (x ∷ rs) first once = by_test (λ n. n ≡ 0) (x.core == c) 0 ((if x.line == line then 1 else 0) + ahead c line rs) (λ mine. refl)
-    (λ other. grind (arith, ahead_first c line rs))
+-- none is ahead of the first
+pub ahead_first : (c line : ℕ) (rs : List Request) → first_of line rs ≡ Some c → ahead c line rs ≡ 0
+ahead_first c line [] first = refl
+ahead_first c line (x ∷ rs) first = grind (arith, ahead_first c line rs)
 
 pub ahead_zero : (c line : ℕ) (rs : List Request) (r : Request) → request_of c rs ≡ Some r → r.line ≡ line → ahead c line rs ≡ 0
     → first_of line rs ≡ Some c
@@ -130,7 +129,31 @@ pub ahead_else : (c d line : ℕ) (rs : List Request) (r : Request) → Requests
 ahead_else c d line [] r once is away other = grind arith
 ahead_else c d line (x ∷ rs) r once is away other = grind (arith, ahead_else c d line rs r once.1, removed_none d rs, once.0)
 
--- with one request a core, at most all but the core's own are ahead
-pub ahead_within : (c line : ℕ) (rs : List Request) → ahead c line rs ≤ length rs
-ahead_within c line [] = grind arith
-ahead_within c line (x ∷ rs) = grind (arith, ahead_within c line rs)
+-- at most the requests beside the core's own are ahead
+pub ahead_within : (c line : ℕ) (rs : List Request) (r : Request) → request_of c rs ≡ Some r → ahead c line rs + 1 ≤ length rs
+ahead_within c line [] r is = absurd (grind arith)
+ahead_within c line (x ∷ rs) r is = grind (arith, ahead_within c line rs r)
+
+-- ---- how many there are
+
+pub request_count : (c : ℕ) (rs : List Request) → RequestsOnce rs → length rs ≤ length (removed c rs) + 1
+request_count c [] once = grind arith
+request_count c (r ∷ rs) once = grind (arith, request_count c rs once.1, removed_none c rs, once.0)
+
+-- at most as many as there are cores
+pub requests_within : (count : ℕ) (rs : List Request) → RequestsOnce rs → ((c : ℕ) → count ≤ c → request_of c rs ≡ None) → length rs ≤ count
+requests_within zero [] once none = omega arith
+requests_within zero (r ∷ rs) once none = absurd (let n : request_of r.core (r ∷ rs) ≡ None = none r.core (omega arith) in grind arith)
+requests_within (suc count) rs once none =
+    let fewer : length (removed count rs) ≤ count =
+    requests_within count (removed count rs) (requests_once_less count rs once) (λ c past. grind (arith, request_less c count rs, none c)) in
+    let counts = request_count count rs once in omega arith
+
+-- where a core has none there is room for one more
+pub requests_below : (count : ℕ) (rs : List Request) (d : ℕ) → RequestsOnce rs → ((c : ℕ) → count ≤ c → request_of c rs ≡ None) → d < count
+    → request_of d rs ≡ None → length rs + 1 ≤ count
+requests_below count rs d once none below free =
+    let r : Request = record { core = d; line = 0; kind = Read } in
+    let all : length (rs ++ r ∷ []) ≤ count =
+    requests_within count (rs ++ r ∷ []) (requests_once_more rs r once free) (λ c past. grind (arith, request_more c rs r, none c past)) in
+    omega (arith, length-append rs (r ∷ []))
