@@ -1,0 +1,187 @@
+-- What holds of a cache stays so at each change.
+use Rattle.std.proofs.Common.{◌≡◌, ◌≢◌, ◌⊎◌, ℕ, zero, suc, ◌+◌, ◌*◌, ◌/◌, ◌%◌, ◌<◌, ◌≤◌, List, [], ◌∷◌, ◌++◌, length, map, Option, Some, None, Bool, true, false, not, ◌==◌, if◌then◌else◌, set, nat_lt, add-one, refl, sym, ap, ◌∙◌, subst, arith, inl, inr, lit<}
+use Rattle.std.specs.List.{filter}
+use Rattle.std.specs.Int.{is_power_of_two}
+use Rattle.std.proofs.lemmas.List.{length-set, length-map}
+use Rattle.std.proofs.lemmas.Nat.{mod_below}
+use Rattle.std.proofs.Math.Nat.{suc-mul, mod-eq_of_lt}
+use Rattle.std.specs.Option.{option_to_list, option_map}
+use lib.Count.{ones, ones-le}
+use Rattle.pmsi_model.specs.declared.Mode.TheVariants.{Shared}
+use Rattle.pmsi_model.specs.declared.job.Geometry.{Geometry}
+use Rattle.pmsi_model.specs.declared.Mode.{Mode}
+use Rattle.pmsi_model.specs.Geometry.{IsGeometry, line_bytes, set_of}
+use Rattle.pmsi_model.specs.Machine.{mode_of, without, to_front, with_mode}
+use Rattle.pmsi_model.specs.Phase.{set_lines}
+use Rattle.pmsi_model.specs.Coherent.{HoldsEachOnce}
+use Rattle.cache_array.specs.declared.line.CachedLine.{CachedLine}
+use Rattle.cache_array.specs.Cache.{CacheValue, IsCache, HasWords, held_of, words_of, entry_of, others, touched, put_first, with_line_mode, with_word, word_place}
+use Rattle.cache_array.proofs.Lines.{mode_of-without, mode_of-with_mode, without-absent, held_of-others, held_of-put_first, held_of-with_line_mode, held_of-with_word, mode_of-entry, entry_line}
+use Rattle.cache_array.proofs.Places.{others_absent}
+
+-- ---- no line is held twice
+
+pub once-without : (line : ℕ) (held : List (ℕ × Mode)) → HoldsEachOnce held → HoldsEachOnce (without line held)
+once-without line [] once = once
+once-without line (h ∷ hs) once = grind (arith, once-without line hs once.1, mode_of-without line h.0 hs, once.0)
+
+pub once-to_front : (line : ℕ) (mode : Mode) (held : List (ℕ × Mode)) → HoldsEachOnce held → HoldsEachOnce (to_front line mode held)
+once-to_front line mode held once = (grind (arith, mode_of-without line line held), once-without line held once)
+
+pub once-with_mode : (line : ℕ) (mode : Mode) (held : List (ℕ × Mode)) → HoldsEachOnce held → HoldsEachOnce (with_mode line mode held)
+once-with_mode line mode [] once = once
+once-with_mode line mode (h ∷ hs) once = grind (arith, once-with_mode line mode hs once.1, mode_of-with_mode line h.0 mode hs, once.0)
+
+-- ---- the lines of a set
+
+pub set_lines-without : (shape : Geometry) (line k : ℕ) (held : List (ℕ × Mode)) → length (set_lines shape k (without line held)) ≤ length (set_lines shape k held)
+set_lines-without shape line k [] = grind arith
+set_lines-without shape line k (h ∷ hs) = grind (arith, set_lines-without shape line k hs)
+
+set_lines-held : (shape : Geometry) (line k : ℕ) (mode : Mode) (held : List (ℕ × Mode)) → mode_of line held ≢ None → length (set_lines shape k (to_front line mode held)) ≤ length (set_lines shape k held)
+set_lines-held shape line k mode [] n = grind arith
+set_lines-held shape line k mode (h ∷ hs) n = grind (arith, set_lines-held shape line k mode hs, set_lines-without shape line k hs)
+
+set_lines-same : (shape : Geometry) (line k : ℕ) (held : List (ℕ × Mode)) → set_of shape line ≡ set_of shape k → set_lines shape line held ≡ set_lines shape k held
+set_lines-same shape line k held e = ap (λ (s : ℕ). filter (λ (h : ℕ × Mode). set_of shape h.0 == s) held) e
+
+set_lines-room : (shape : Geometry) (line k : ℕ) (mode : Mode) (held : List (ℕ × Mode)) → length (set_lines shape line held) < shape.ways → length (set_lines shape k held) ≤ shape.ways
+    → length (set_lines shape k (to_front line mode held)) ≤ shape.ways
+set_lines-room shape line k mode held room within = grind (arith, set_lines-same shape line k held, set_lines-without shape line k held)
+
+set_lines-put : (shape : Geometry) (line k : ℕ) (mode : Mode) (held : List (ℕ × Mode)) → mode_of line held ≢ None ⊎ (length (set_lines shape line held) < shape.ways) → length (set_lines shape k held) ≤ shape.ways
+    → length (set_lines shape k (to_front line mode held)) ≤ shape.ways
+set_lines-put shape line k mode held (inl n) within = let less = set_lines-held shape line k mode held n in omega arith
+set_lines-put shape line k mode held (inr room) within = set_lines-room shape line k mode held room within
+
+pub set_lines-with_mode : (shape : Geometry) (line k : ℕ) (mode : Mode) (held : List (ℕ × Mode)) → length (set_lines shape k (with_mode line mode held)) ≡ length (set_lines shape k held)
+set_lines-with_mode shape line k mode [] = refl
+set_lines-with_mode shape line k mode (h ∷ hs) = grind (arith, set_lines-with_mode shape line k mode hs)
+
+-- ---- words
+
+words-others : (count line : ℕ) (lines : List CachedLine) → HasWords count lines → HasWords count (others line lines)
+words-others count line [] has = has
+words-others count line (l ∷ ls) has = grind (arith, words-others count line ls has.1, has.0)
+
+words-with_line_mode : (count line : ℕ) (mode : Mode) (lines : List CachedLine) → HasWords count lines → HasWords count (with_line_mode line mode lines)
+words-with_line_mode count line mode [] has = has
+words-with_line_mode count line mode (l ∷ ls) has = grind (arith, words-with_line_mode count line mode ls has.1, has.0)
+
+words-with_word : (count line place word : ℕ) (lines : List CachedLine) → HasWords count lines → HasWords count (with_word line place word lines)
+words-with_word count line place word [] has = has
+words-with_word count line place word (l ∷ ls) has = grind (arith, words-with_word count line place word ls has.1, has.0, length-set l.words place word)
+
+pub words_of-length : (count line : ℕ) (lines : List CachedLine) → HasWords count lines → mode_of line (held_of lines) ≢ None → length (words_of line lines) ≡ count
+words_of-length count line [] has n = grind arith
+words_of-length count line (l ∷ ls) has n = grind (arith, words_of-length count line ls has.1, has.0)
+
+-- ---- the whole
+
+held_lines : (c : CacheValue) (lines : List CachedLine) → IsCache c → held_of lines ≡ held_of c.lines → HasWords c.shape.line_words lines → IsCache (record { shape = c.shape; lines = lines })
+held_lines c lines is e has = record {
+  shape = is.shape;
+  once = rw e is.once;
+  within = rw e is.within;
+  words = has;
+}
+
+pub IsCache-put_first : (c : CacheValue) (line : ℕ) (mode : Mode) (words : List ℕ) → IsCache c → mode_of line (held_of c.lines) ≢ None ⊎ (length (set_lines c.shape line (held_of c.lines)) < c.shape.ways) → length words ≡ c.shape.line_words
+    → IsCache (record { shape = c.shape; lines = put_first line mode words c.lines })
+IsCache-put_first c line mode words is room long = record {
+  shape = is.shape;
+  once = rw (held_of-others line c.lines) (once-to_front line mode (held_of c.lines) is.once);
+  within = λ k. rw (held_of-others line c.lines) (set_lines-put c.shape line k mode (held_of c.lines) room (is.within k));
+  words = (long, words-others c.shape.line_words line c.lines is.words);
+}
+
+pub IsCache-others : (c : CacheValue) (line : ℕ) → IsCache c → IsCache (record { shape = c.shape; lines = others line c.lines })
+IsCache-others c line is = record {
+  shape = is.shape;
+  once = rw (held_of-others line c.lines) (once-without line (held_of c.lines) is.once);
+  within = λ k. rw (held_of-others line c.lines) (let a = is.within k in let b = set_lines-without c.shape line k (held_of c.lines) in omega arith);
+  words = words-others c.shape.line_words line c.lines is.words;
+}
+
+IsCache-fronted : (c : CacheValue) (line : ℕ) (entry : Option CachedLine) → IsCache c → entry_of line c.lines ≡ entry → IsCache (record { shape = c.shape; lines = option_to_list entry ++ others line c.lines })
+IsCache-fronted c line None is e = IsCache-others c line is
+IsCache-fronted c line (Some l) is e =
+    let at = entry_line line c.lines l e in
+    let held : mode_of line (held_of c.lines) ≡ Some l.mode = mode_of-entry line c.lines ∙ ap (option_map (λ (x : CachedLine). x.mode)) e in
+    let is_held : mode_of line (held_of c.lines) ≢ None = λ none. cc in
+    let long : length l.words ≡ c.shape.line_words = ap length (sym at.1) ∙ words_of-length c.shape.line_words line c.lines is.words is_held in
+    subst (λ (k : ℕ). IsCache (record { shape = c.shape; lines = record { line = k; mode = l.mode; words = l.words } ∷ others line c.lines })) (sym at.0) (IsCache-put_first c line l.mode l.words is (inl is_held) long)
+
+pub IsCache-touched : (c : CacheValue) (line : ℕ) → IsCache c → IsCache (record { shape = c.shape; lines = touched line c.lines })
+IsCache-touched c line is = IsCache-fronted c line (entry_of line c.lines) is refl
+
+pub IsCache-with_line_mode : (c : CacheValue) (line : ℕ) (mode : Mode) → IsCache c → IsCache (record { shape = c.shape; lines = with_line_mode line mode c.lines })
+IsCache-with_line_mode c line mode is = record {
+  shape = is.shape;
+  once = rw (held_of-with_line_mode line mode c.lines) (once-with_mode line mode (held_of c.lines) is.once);
+  within = λ k. rw (held_of-with_line_mode line mode c.lines, set_lines-with_mode c.shape line k mode (held_of c.lines)) (is.within k);
+  words = words-with_line_mode c.shape.line_words line mode c.lines is.words;
+}
+
+pub IsCache-with_word : (c : CacheValue) (line place word : ℕ) → IsCache c → IsCache (record { shape = c.shape; lines = with_word line place word c.lines })
+IsCache-with_word c line place word is = held_lines c (with_word line place word c.lines) is (held_of-with_word line place word c.lines) (words-with_word c.shape.line_words line place word c.lines is.words)
+
+-- ---- the room
+
+some_from_power : (n : ℕ) → is_power_of_two n ≡ true → 0 < n
+some_from_power zero e = let none : ones 0 ≤ 0 = ones-le 0 0 (lit< tt) in absurd (grind (arith, none))
+some_from_power (suc n) e = omega arith
+
+none_below : (shape : Geometry) (held : List (ℕ × Mode)) → filter (λ h. nat_lt (set_of shape h.0) 0) held ≡ []
+none_below shape [] = refl
+none_below shape (h ∷ hs) = grind (arith, none_below shape hs)
+
+one_more_set : (shape : Geometry) (n : ℕ) (held : List (ℕ × Mode))
+    → length (filter (λ h. nat_lt (set_of shape h.0) (n + 1)) held) ≡ length (filter (λ h. nat_lt (set_of shape h.0) n) held) + length (filter (λ h. set_of shape h.0 == n) held)
+one_more_set shape n [] = grind arith
+one_more_set shape n (h ∷ hs) = grind (arith, one_more_set shape n hs)
+
+below_sets : (shape : Geometry) (held : List (ℕ × Mode)) (n : ℕ) → n ≤ shape.sets → ((line : ℕ) → length (set_lines shape line held) ≤ shape.ways)
+    → length (filter (λ h. nat_lt (set_of shape h.0) n) held) ≤ n * shape.ways
+below_sets shape held zero most within = rw (none_below shape held) (omega arith)
+below_sets shape held (suc n) most within =
+    let rest = below_sets shape held n (omega arith) within in
+    let more = one_more_set shape n held in
+    let here : set_of shape n ≡ n = mod-eq_of_lt (omega arith) in
+    let set : length (filter (λ (h : ℕ × Mode). set_of shape h.0 == n) held) ≤ shape.ways = rw here at (within n) in
+    let all : suc n * shape.ways ≡ n * shape.ways + shape.ways = suc-mul n shape.ways in
+    rw (all, ← add-one n) (omega arith)
+
+all_sets : (shape : Geometry) (held : List (ℕ × Mode)) → 0 < shape.sets → filter (λ h. nat_lt (set_of shape h.0) shape.sets) held ≡ held
+all_sets shape [] some = refl
+all_sets shape (h ∷ hs) some = let below : set_of shape h.0 < shape.sets = mod_below h.0 shape.sets some in grind (arith, all_sets shape hs some)
+
+-- as many lines as there are sets times ways
+pub lines_fit : (c : CacheValue) → IsCache c → length c.lines ≤ c.shape.sets * c.shape.ways
+lines_fit c is =
+    let most = below_sets c.shape (held_of c.lines) c.shape.sets (omega arith) is.within in
+    let all = all_sets c.shape (held_of c.lines) (some_from_power c.shape.sets is.shape.sets) in
+    let long : length (held_of c.lines) ≡ length c.lines = length-map c.lines (λ (l : CachedLine). (l.line, l.mode)) in
+    let most' : length (held_of c.lines) ≤ c.shape.sets * c.shape.ways = rw all at most in omega arith
+
+-- a line that can be put and isn't held fits as well
+pub one_more_fits : (c : CacheValue) (line : ℕ) (words : List ℕ) → IsCache c → mode_of line (held_of c.lines) ≡ None → length (set_lines c.shape line (held_of c.lines)) < c.shape.ways → length words ≡ c.shape.line_words
+    → length c.lines < c.shape.sets * c.shape.ways
+one_more_fits c line words is absent room long =
+    let fits = lines_fit _ (IsCache-put_first c line Shared words is (inr room) long) in
+    let long' : length (others line c.lines) ≡ length c.lines = ap length (others_absent line c.lines absent) in omega arith
+
+-- ---- the place of a word
+
+pub place_within : (shape : Geometry) (address : ℕ) → IsGeometry shape → word_place shape address < shape.line_words
+place_within shape address is =
+    let least : 4 ≤ shape.line_words = is.least_line in
+    let below : address % line_bytes shape < 4 * shape.line_words = mod_below address (line_bytes shape) (omega arith) in
+    let rest : ℕ = address % line_bytes shape in
+    let below' : rest < 4 * shape.line_words = below in
+    let short : rest / 4 < shape.line_words = omega arith in short
+
+pub has_place : (c : CacheValue) (line address : ℕ) (words : List ℕ) → IsCache c → mode_of line (held_of c.lines) ≢ None → words_of line c.lines ≡ words → word_place c.shape address < length words
+has_place c line address words is held e =
+    let long : length words ≡ c.shape.line_words = ap length (sym e) ∙ words_of-length c.shape.line_words line c.lines is.words held in
+    let within = place_within c.shape address is.shape in omega arith
