@@ -171,6 +171,17 @@ one_more_fits c line words is absent room long =
     let fits = lines_fit _ (IsCache-put_first c line Shared words is (inr room) long) in
     let long' : length (others line c.lines) ≡ length c.lines = ap length (others_absent line c.lines absent) in omega arith
 
+room_for : (c : CacheValue) (line : ℕ) (words : List ℕ) (len cap : ℕ) (mode : Option Mode) → mode_of line (held_of c.lines) ≡ mode → IsCache c → length (set_lines c.shape line (held_of c.lines)) < c.shape.ways → length words ≡ c.shape.line_words
+    → len ≡ length c.lines → c.shape.sets * c.shape.ways ≤ cap → mode_of line (held_of c.lines) ≢ None ⊎ (len < cap)
+room_for c line words len cap None e is room long count most = let fits = one_more_fits c line words is e room long in inr (omega arith)
+room_for c line words len cap (Some mode) e is room long count most = inl (λ none. cc)
+
+-- a line that can be put has its place or finds one
+pub room_to_put : (c : CacheValue) (line : ℕ) (words : List ℕ) (len cap : ℕ) → IsCache c → mode_of line (held_of c.lines) ≢ None ⊎ (length (set_lines c.shape line (held_of c.lines)) < c.shape.ways) → length words ≡ c.shape.line_words
+    → len ≡ length c.lines → c.shape.sets * c.shape.ways ≤ cap → mode_of line (held_of c.lines) ≢ None ⊎ (len < cap)
+room_to_put c line words len cap is (inl held) long count most = inl held
+room_to_put c line words len cap is (inr room) long count most = room_for c line words len cap (mode_of line (held_of c.lines)) refl is room long count most
+
 -- ---- the place of a word
 
 pub place_within : (shape : Geometry) (address : ℕ) → IsGeometry shape → word_place shape address < shape.line_words

@@ -135,8 +135,14 @@ impl CacheArray {
         ensures held { held_of self.new.lines ≡ to_front line mode (held_of self.old.lines) }
         ensures words { (k : ℕ) → words_of k self.new.lines ≡ (if k == line then words.now else words_of k self.old.lines) }
     {
-        let words = LineWords::from_slice(words);
-        entries::put_first(&mut self.entries, CachedLine { line, mode, words });
+        entries::put_first(
+            &mut self.entries,
+            CachedLine {
+                line,
+                mode,
+                words: LineWords::from_slice(words),
+            },
+        );
     }
 
     /// Changes the mode of a line in its place.

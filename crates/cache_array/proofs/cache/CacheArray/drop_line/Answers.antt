@@ -1,5 +1,5 @@
 -- The cache without a line.
-use Rattle.std.proofs.Common.{◌≡◌, ◌∙◌}
+use Rattle.std.proofs.Common.{◌≡◌, refl, ◌∙◌}
 use Rattle.cache_array.specs.Cache.{others}
 use Rattle.cache_array.proofs.Lines.{held_of-others, words_of-others}
 use Rattle.cache_array.proofs.Places.{remove_at}

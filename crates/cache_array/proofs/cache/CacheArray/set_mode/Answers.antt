@@ -1,5 +1,5 @@
 -- The cache with another mode of a line.
-use Rattle.std.proofs.Common.{◌≡◌, set}
+use Rattle.std.proofs.Common.{◌≡◌, refl, set}
 use Rattle.cache_array.specs.declared.line.CachedLine.{CachedLine}
 use Rattle.cache_array.specs.Cache.{with_line_mode}
 use Rattle.cache_array.proofs.Lines.{held_of-with_line_mode, words_of-with_line_mode}
