@@ -1,7 +1,7 @@
 -- The place of a line in the list, and what an edit there leaves.
 use Rattle.std.proofs.Common.{◌≡◌, ◌≢◌, ℕ, zero, suc, ◌+◌, ◌-◌, ◌<◌, ◌≤◌, List, [], ◌∷◌, ◌++◌, length, take, drop, get_or, set, remove, Option, Some, None, Bool, true, false, ◌==◌, refl, sym, ap, ◌∙◌, arith, add-one}
 use Rattle.std.specs.List.{position, position_or_len, slice_get}
-use Rattle.std.specs.Option.{option_to_list}
+use Rattle.std.specs.Option.{option_to_list, option_map}
 use Rattle.std.proofs.lemmas.List.Folds.{find_at}
 use Rattle.std.proofs.lemmas.Option.{slice_get-get_or}
 use Rattle.std.proofs.lemmas.List.{take_more, length-take-le, drop_at, take_at, take-set, drop-set-lt}
@@ -9,7 +9,7 @@ use Rattle.pmsi_model.specs.Machine.{mode_of}
 use Rattle.pmsi_model.specs.Coherent.{HoldsEachOnce}
 use Rattle.cache_array.specs.declared.line.CachedLine.{CachedLine}
 use Rattle.cache_array.specs.Cache.{held_of, words_of, entry_of, others, touched, with_line}
-use Rattle.cache_array.proofs.Lines.{entry_line}
+use Rattle.cache_array.proofs.Lines.{entry_line, mode_of-entry}
 
 -- the front up to a place, turned by one
 rotated_by : {X : Type 0} (xs : List X) (i : ℕ) (d : X) (r : List X) → i < length xs
@@ -106,3 +106,8 @@ changed_at line i f lines m once e here = ap (λ (x : CachedLine). set lines i (
 
 pub read_at : (line i : ℕ) (lines : List CachedLine) (m : CachedLine) → position (λ l. l.line == line) lines ≡ Some i → m ≡ get_or lines i m → words_of line lines ≡ m.words
 read_at line i lines m e here = (entry_line line lines m (sym (entry_at line i lines e) ∙ slice_get-get_or lines i m (place_is line i lines e).1 ∙ ap (λ (x : CachedLine). Some x) (sym here))).1
+
+pub mode_at : (line i : ℕ) (lines : List CachedLine) (m : CachedLine) → position (λ l. l.line == line) lines ≡ Some i → m ≡ get_or lines i m → mode_of line (held_of lines) ≡ Some m.mode
+mode_at line i lines m e here =
+    let at : entry_of line lines ≡ Some m = sym (entry_at line i lines e) ∙ slice_get-get_or lines i m (place_is line i lines e).1 ∙ ap (λ (x : CachedLine). Some x) (sym here) in
+    mode_of-entry line lines ∙ ap (option_map (λ (l : CachedLine). l.mode)) at

@@ -88,10 +88,8 @@ impl CacheArray {
         ensures mode { result ≡ mode_of line (held_of self.now.lines) }
         ensures cache { IsCache self.now }
     {
-        self.entries
-            .iter()
-            .find(|entry| entry.line == line)
-            .map(|entry| entry.mode)
+        let place = entries::place_of(&self.entries, line)?;
+        Some(self.entries[place].mode)
     }
 
     /// Makes a line the most recently used.
