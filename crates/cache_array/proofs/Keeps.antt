@@ -1,5 +1,5 @@
 -- What holds of a cache stays so at each change.
-use Rattle.std.proofs.Common.{◌≡◌, ◌≢◌, ◌⊎◌, ℕ, zero, suc, ◌+◌, ◌*◌, ◌/◌, ◌%◌, ◌<◌, ◌≤◌, List, [], ◌∷◌, ◌++◌, length, map, Option, Some, None, Bool, true, false, not, ◌==◌, if◌then◌else◌, set, nat_lt, add-one, refl, sym, ap, ◌∙◌, subst, arith, inl, inr, lit<}
+use Rattle.std.proofs.Common.{◌≡◌, ◌≢◌, ◌⊎◌, ℕ, zero, suc, ◌+◌, ◌*◌, ◌/◌, ◌%◌, ◌<◌, ◌≤◌, List, [], ◌∷◌, ◌++◌, length, Option, Some, None, true, ◌==◌, nat_lt, add-one, refl, sym, ap, ◌∙◌, subst, arith, inl, inr, lit<}
 use Rattle.std.specs.List.{filter}
 use Rattle.std.specs.Int.{is_power_of_two}
 use Rattle.std.proofs.lemmas.List.{length-set, length-map}
@@ -16,7 +16,7 @@ use Rattle.pmsi_model.specs.Phase.{set_lines}
 use Rattle.pmsi_model.specs.Coherent.{HoldsEachOnce}
 use Rattle.cache_array.specs.declared.line.CachedLine.{CachedLine}
 use Rattle.cache_array.specs.Cache.{CacheValue, IsCache, HasWords, held_of, words_of, entry_of, others, touched, put_first, with_line_mode, with_word, word_place}
-use Rattle.cache_array.proofs.Lines.{mode_of-without, mode_of-with_mode, without-absent, held_of-others, held_of-put_first, held_of-with_line_mode, held_of-with_word, mode_of-entry, entry_line}
+use Rattle.cache_array.proofs.Lines.{mode_of-without, mode_of-with_mode, held_of-others, held_of-with_line_mode, held_of-with_word, mode_of-entry, entry_line}
 use Rattle.cache_array.proofs.Places.{others_absent}
 
 -- ---- no line is held twice

@@ -1,5 +1,5 @@
 -- The place of a line in the list, and what an edit there leaves.
-use Rattle.std.proofs.Common.{◌≡◌, ◌≢◌, ℕ, zero, suc, ◌+◌, ◌-◌, ◌<◌, ◌≤◌, List, [], ◌∷◌, ◌++◌, length, take, drop, get_or, set, remove, Option, Some, None, Bool, true, false, ◌==◌, refl, sym, ap, ◌∙◌, arith, add-one}
+use Rattle.std.proofs.Common.{◌≡◌, ℕ, zero, suc, ◌+◌, ◌-◌, ◌<◌, ◌≤◌, List, [], ◌∷◌, ◌++◌, length, take, drop, get_or, set, remove, Some, None, ◌==◌, refl, sym, ap, ◌∙◌, arith, add-one}
 use Rattle.std.specs.List.{position, position_or_len, slice_get}
 use Rattle.std.specs.Option.{option_to_list, option_map}
 use Rattle.std.proofs.lemmas.List.Folds.{find_at}

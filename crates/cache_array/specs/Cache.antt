@@ -1,10 +1,10 @@
 -- What a contract sees of a cache: its shape and its lines, most recently used first.
-use Rattle.std.specs.Prelude.{◌≡◌, ◌≢◌, ℕ, ◌/◌, ◌%◌, ◌≤◌, List, [], ◌∷◌, ◌++◌, map, length, slice_set, Bool, not, ◌==◌, Option, Some, None, if◌then◌else◌}
+use Rattle.std.specs.Prelude.{◌≡◌, ◌≢◌, ℕ, ◌/◌, ◌%◌, ◌≤◌, List, [], ◌∷◌, ◌++◌, map, length, slice_set, not, ◌==◌, Option, None, if◌then◌else◌}
 use Rattle.std.specs.List.{filter, find}
 use Rattle.std.specs.Option.{option_to_list}
 use Rattle.pmsi_model.specs.declared.job.Geometry.{Geometry}
 use Rattle.pmsi_model.specs.declared.Mode.{Mode}
-use Rattle.pmsi_model.specs.Geometry.{IsGeometry, line_bytes, line_of}
+use Rattle.pmsi_model.specs.Geometry.{IsGeometry, line_bytes}
 use Rattle.pmsi_model.specs.Machine.{mode_of}
 use Rattle.pmsi_model.specs.Phase.{set_lines}
 use Rattle.pmsi_model.specs.Coherent.{HoldsEachOnce}

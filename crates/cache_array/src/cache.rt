@@ -6,8 +6,7 @@ ghost use Rattle.pmsi_model.specs.Machine.{mode_of, without, to_front, with_mode
 ghost use Rattle.pmsi_model.specs.Phase.{set_lines, touched_line, evicted};
 ghost use Rattle.cache_array.specs.Cache.{IsCache, Holds, held_of, words_of, entry_of, word_place, others, touched, put_first, with_line_mode, with_word};
 
-use crate::entries;
-use crate::{CachedLine, LineWords};
+use crate::{CachedLine, LineWords, entries};
 use arrayvec::ArrayVec;
 use pmsi_model::{Geometry, Mode, NoMemory};
 use std::alloc::Global;

@@ -7,3 +7,6 @@ mod line;
 
 pub use cache::CacheArray;
 pub use line::{CachedLine, LineWords};
+
+#[cfg(test)]
+mod tests;

@@ -1,5 +1,5 @@
 -- The line that was found goes to the front.
-use Rattle.std.proofs.Common.{◌≡◌, ◌∙◌, length, ap, arith}
+use Rattle.std.proofs.Common.{◌≡◌, ◌∙◌, length, arith}
 use Rattle.cache_array.proofs.Places.{refilled, touched_at}
 use Rattle.cache_array.proofs.entries.touch.Goals as goal
 

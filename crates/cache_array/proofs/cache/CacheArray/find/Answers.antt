@@ -1,5 +1,5 @@
 -- The mode of the line that is found.
-use Rattle.std.proofs.Common.{◌≡◌, sym, ◌∙◌}
+use Rattle.std.proofs.Common.{sym, ◌∙◌}
 use Rattle.cache_array.proofs.Places.{absent, mode_at}
 use Rattle.cache_array.proofs.cache.CacheArray.find.Goals as goal
 

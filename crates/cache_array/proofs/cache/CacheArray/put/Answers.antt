@@ -1,5 +1,5 @@
 -- The cache with a line that was put.
-use Rattle.std.proofs.Common.{◌≡◌, ◌≢◌, ◌≤◌, length, ap, arith}
+use Rattle.std.proofs.Common.{◌≡◌, ◌≤◌, ap, arith}
 use Rattle.cache_array.specs.Cache.{CacheValue}
 use Rattle.cache_array.proofs.Lines.{held_of-put_first, words_of-put_first}
 use Rattle.cache_array.proofs.Keeps.{IsCache-put_first, room_to_put}

@@ -20,7 +20,7 @@ changed : (c : goal.After-self-1) → set c.self.inside.entries.items c.held_pla
 changed c =
     let at = rw (c.deref.ensures.value, c.line_of.ensures) at c.held_place-place.ensures.place in
     rw (c.set.ensures, c.line_bytes.ensures)
-        (changed_at (line_of c.self.inside.shape c.args.address) c.held_place-place.result (λ (l : CachedLine). record l { words = slice_set l.words (word_place c.self.inside.shape c.args.address) c.args.word }) c.self.inside.entries.items c.index_mut-entry.result.now c.self.invariant.0.once at c.index_mut-entry.ensures.value)
+    (changed_at (line_of c.self.inside.shape c.args.address) c.held_place-place.result (λ (l : CachedLine). record l { words = slice_set l.words (word_place c.self.inside.shape c.args.address) c.args.word }) c.self.inside.entries.items c.index_mut-entry.result.now c.self.invariant.0.once at c.index_mut-entry.ensures.value)
 
 pub invariant_of-self : goal.invariant_of-self
 invariant_of-self c = (rw (changed c) (IsCache-with_word _ (line_of c.self.inside.shape c.args.address) (word_place c.self.inside.shape c.args.address) c.args.word c.self.invariant.0), c.self.invariant.1)
