@@ -1,0 +1,2 @@
+//! Job texts.
+#![tactic(auto)]
