@@ -1,1 +1,2 @@
 pub mod JobText
+pub mod Reading

@@ -1,2 +1,34 @@
 //! Job texts.
 #![tactic(auto)]
+
+ghost use Rattle.std.specs.Prelude.{◌≡◌, ℕ, ◌^◌, ◌<◌, ◌≤◌, List, IfOk, IfErr};
+ghost use Rattle.std.specs.List.{All};
+ghost use Rattle.pmsi_model.specs.Job.{JobValue};
+ghost use Rattle.job_text.specs.JobText.{IsTextOf, words_line};
+
+mod fault;
+mod heads;
+mod words;
+
+pub use fault::JobFault;
+
+use heads::heads_of;
+use pmsi_model::{Bytes, Job, WordLists, Words};
+use std::alloc::Global;
+use words::words_of;
+
+/// Reads the text of a job of one core whose program is given as words.
+pub fn read_job(alloc: Global, bytes: &[u8]) -> Result<Job, JobFault>
+    ensures job { IfOk result (λ job. IsTextOf job bytes.now) }
+    ensures not_built { IfErr result (λ e. e ≡ JobFault.NotBuilt → (job : JobValue) → IsTextOf job bytes.now → ⊥) }
+{
+    let (shape, rest) = heads_of(bytes).ok_or(JobFault::NotBuilt)?;
+    if shape.cores != 1 || !shape.is_within_limits() {
+        return Err(JobFault::NotBuilt);
+    }
+    let words = words_of(alloc, rest)?;
+    let mut texts = Vec::with_capacity(alloc, 1)?;
+    texts.push(Words::from_vec(words))?;
+    let start = vec![in alloc; 0; shape.memory as usize]?;
+    Ok(Job::new(shape, WordLists::from_vec(texts), Bytes::from_vec(start)))
+}
