@@ -1,3 +1,4 @@
+pub mod Shapes
 pub mod Reading
 pub mod Hex
 pub mod Decimal

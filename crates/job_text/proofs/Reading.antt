@@ -4,7 +4,7 @@ use Rattle.std.proofs.lemmas.List.{append_cancel_left}
 use Rattle.job_text.specs.Reading.{Reads, IsSmall, number_text}
 use Rattle.job_text.proofs.Decimal.{no_newline}
 
-abbrev pair : {A B : Type 0} → A → B → Option (A × B)
+abbrev pub pair : {A B : Type 0} → A → B → Option (A × B)
 pair a b = Some (a, b)
 
 some_is : {A : Type 0} (x y : A) → Some x ≡ Some y → x ≡ y
