@@ -1,3 +1,4 @@
+pub mod WordTexts
 pub mod Shapes
 pub mod Reading
 pub mod Hex

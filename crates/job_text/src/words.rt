@@ -1,7 +1,7 @@
 //! The line of a core's words.
 
-ghost use Rattle.std.specs.Prelude.{◌≡◌, ℕ, ◌^◌, ◌<◌, ◌≤◌, List, length, option_map, Option, Some, IfSome, IfOk, IfErr};
-ghost use Rattle.std.specs.List.{All};
+ghost use Rattle.std.specs.Prelude.{◌≡◌, ℕ, ◌^◌, ◌<◌, ◌≤◌, List, ◌++◌, codes, length, option_map, Option, Some, IfSome, IfOk, IfErr};
+ghost use Rattle.std.specs.List.{All, flat_map};
 ghost use Rattle.pmsi_model.specs.declared.limits.TheConstants.{MAX_TEXT_WORDS};
 ghost use Rattle.pmsi_model.specs.Lines.{digit_of, hex_digits};
 ghost use Rattle.job_text.specs.JobText.{word_text, words_line};
@@ -17,14 +17,35 @@ pub(crate) fn words_of(alloc: Global, bytes: &[u8]) -> Result<Vec<u32>, JobFault
     ensures not_built { IfErr result (λ e. e ≡ JobFault.NotBuilt → (words : List ℕ) → All IsSmall words
         → length words ≤ MAX_TEXT_WORDS → bytes.now ≡ words_line 0 words → ⊥) }
 {
-    let line = bytes.strip_prefix(b"core 0 hex").ok_or(JobFault::NotBuilt)?;
-    let mut rest = line.strip_suffix(b"\n").ok_or(JobFault::NotBuilt)?;
-    if rest.len() > 9 * MAX_TEXT_WORDS as usize {
+    let Some(texts) = texts_of(bytes) else {
+        return Err(JobFault::NotBuilt);
+    };
+    words_in(alloc, texts)
+}
+
+/// What stands between the head of the line of core 0 and its end.
+fn texts_of(bytes: &[u8]) -> Option<&[u8]>
+    ensures found { IfSome result (λ texts. bytes.now ≡ codes "core 0 hex" ++ texts.now ++ codes "\n") }
+    ensures only { (texts : List ℕ) → bytes.now ≡ codes "core 0 hex" ++ texts ++ codes "\n" → option_map (λ t. t.now) result ≡ Some texts }
+{
+    bytes.strip_prefix(b"core 0 hex")?.strip_suffix(b"\n")
+}
+
+/// Reads words, each after a blank, up to the end of the bytes.
+fn words_in(alloc: Global, texts: &[u8]) -> Result<Vec<u32>, JobFault>
+    ensures words { IfOk result (λ v. (texts.now ≡ flat_map word_text v.items) × (length v.items ≤ MAX_TEXT_WORDS) × All IsSmall v.items) }
+    ensures not_built { IfErr result (λ e. e ≡ JobFault.NotBuilt → (words : List ℕ) → All IsSmall words
+        → length words ≤ MAX_TEXT_WORDS → texts.now ≡ flat_map word_text words → ⊥) }
+{
+    if texts.len() > 9 * MAX_TEXT_WORDS as usize {
         return Err(JobFault::NotBuilt);
     }
-    let mut words = Vec::with_capacity(alloc, rest.len() / 9)?;
+    let mut words = Vec::with_capacity(alloc, texts.len() / 9)?;
+    let mut rest = texts;
     while !rest.is_empty() {
-        let (word, after) = word_of(rest).ok_or(JobFault::NotBuilt)?;
+        let Some((word, after)) = word_of(rest) else {
+            return Err(JobFault::NotBuilt);
+        };
         words.push(word)?;
         rest = after;
     }
@@ -35,7 +56,8 @@ pub(crate) fn words_of(alloc: Global, bytes: &[u8]) -> Result<Vec<u32>, JobFault
 fn word_of(bytes: &[u8]) -> Option<(u32, &[u8])>
     ensures { Reads word_text IsSmall bytes.now (option_map (λ x. (x.0, x.1.now)) result) }
 {
-    let (digits, rest) = bytes.strip_prefix(b" ")?.split_first_chunk::<8>()?;
+    let rest = bytes.strip_prefix(b" ")?;
+    let (digits, rest) = rest.split_first_chunk::<8>()?;
     let word = hex_value(digits)?;
     Some((word, rest))
 }
