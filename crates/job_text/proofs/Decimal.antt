@@ -1,5 +1,5 @@
 -- Decimal texts: `parse` reads them back, and they have no newline, so a line ends at the first.
-use Rattle.std.proofs.Common.{◌≡◌, ℕ, ◌+◌, ◌-◌, ◌^◌, ◌<◌, Bool, cond, true, false, eqb, ltb, List, [], ◌∷◌, ◌++◌, Some, None, Option, Ok, Err, length, get_or, take, drop, refl, sym, ap, ◌∙◌, All, arith, decimal}
+use Rattle.std.proofs.Common.{◌≡◌, ℕ, ◌+◌, ◌-◌, ◌<◌, Bool, false, eqb, List, ◌∷◌, ◌++◌, Some, Option, Ok, Err, length, get_or, take, drop, refl, sym, ap, ◌∙◌, All, arith, decimal}
 use Rattle.std.proofs.lemmas.Bool.{ne_eqb, eq-eqb, lt-ltb}
 use Rattle.std.proofs.lemmas.Fmt.{decimal_is_IsNumeral, parse-decimal}
 use Rattle.std.proofs.lemmas.List.{get_or_default, get_or_append_left, get_or_at, length-append, take_at, drop_at, drop-drop, drop_more, take-append-drop, take_rest}

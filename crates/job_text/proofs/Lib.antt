@@ -1,3 +1,4 @@
+pub mod JobTexts
 pub mod WordTexts
 pub mod Shapes
 pub mod Reading

@@ -1,8 +1,9 @@
 -- How a reader of several parts follows from readers of each.
-use Rattle.std.proofs.Common.{◌≡◌, ◌≢◌, ℕ, ◌^◌, ◌<◌, List, [], ◌∷◌, ◌++◌, Option, Some, None, refl, sym, ap, subst, ◌∙◌, All, append_assoc, decimal}
+use Rattle.std.proofs.Common.{◌≡◌, ◌≢◌, ℕ, ◌^◌, ◌<◌, List, [], ◌∷◌, ◌++◌, Option, Some, None, refl, sym, ap, ◌∙◌, All, append_assoc, decimal, length, arith}
+use Rattle.std.proofs.lemmas.Fmt.{decimal_injective}
 use Rattle.std.proofs.lemmas.List.{append_cancel_left}
 use Rattle.job_text.specs.Reading.{Reads, IsSmall, number_text}
-use Rattle.job_text.proofs.Decimal.{no_newline}
+use Rattle.job_text.proofs.Decimal.{no_newline, found_newline, both_parts}
 
 abbrev pub pair : {A B : Type 0} → A → B → Option (A × B)
 pair a b = Some (a, b)
@@ -59,3 +60,18 @@ a_number front bytes after digits end number has line is only one = record {
       let is_n = some_is number n (one n small (firsts digits (decimal n) end rest at)) in
       same_pairs number n end rest is_n (seconds digits (decimal n) end rest at);
 }
+
+-- the text of a number is read as that number
+
+only_line : (n : ℕ) (rest : List ℕ) → IsSmall n → OnlyLine (decimal n ++ 10 ∷ rest) (Some (decimal n, rest))
+only_line n rest small = λ line others none e.
+    let bytes = decimal n ++ 10 ∷ rest in
+    let here = found_newline bytes (decimal n) rest (no_newline n small) refl in
+    let there = found_newline bytes line others none e in
+    sym (both_parts bytes (decimal n) rest (length (decimal n)) refl refl) ∙ both_parts bytes line others (length (decimal n)) e (sym here ∙ there)
+
+only_number : (n : ℕ) → IsSmall n → OnlyNumber (decimal n) (Some n)
+only_number n small = λ m small_m e. ap (λ (k : ℕ). Some k) (decimal_injective n m (omega arith) (omega arith) e)
+
+pub number_reads : (front : List ℕ) (n : ℕ) (rest : List ℕ) → IsSmall n → Reads (number_text front) IsSmall (number_text front n ++ rest) (Some (n, rest))
+number_reads front n rest small = a_number front (number_text front n ++ rest) (decimal n ++ 10 ∷ rest) (decimal n) rest n (spread front n rest) refl refl (only_line n rest small) (only_number n small)

@@ -1,10 +1,9 @@
 -- How the lines down to the cores are read, one number after the other.
-use Rattle.std.proofs.Common.{◌≡◌, ◌≢◌, ℕ, ◌<◌, List, [], ◌∷◌, ◌++◌, Option, Some, None, get_or, refl, sym, ap, ◌∙◌, append_assoc}
+use Rattle.std.proofs.Common.{◌≡◌, ◌≢◌, ℕ, List, [], ◌∷◌, ◌++◌, Option, Some, None, get_or, refl, sym, ap, subst, ◌∙◌, append_assoc}
 use Rattle.std.specs.Prelude.{codes}
 use Rattle.pmsi_model.specs.declared.job.Geometry.{Geometry}
-use Rattle.job_text.specs.JobText.{shape_text}
 use Rattle.job_text.specs.Reading.{Reads, IsSmall, FitsShape, number_text, head_text}
-use Rattle.job_text.proofs.Reading.{pair, firsts, seconds, same_pairs}
+use Rattle.job_text.proofs.Reading.{pair, firsts, seconds, same_pairs, number_reads}
 use Rattle.std.proofs.lemmas.List.{append_cancel_left}
 
 -- a line for each number
@@ -91,8 +90,8 @@ after_quantum = codes "line " ∷ after_line_words
 abbrev pub after_cores : List (List ℕ)
 after_cores = codes "quantum " ∷ after_quantum
 
-abbrev pub fronts : List (List ℕ)
-fronts = codes "cores " ∷ after_cores
+abbrev pub all_fronts : List (List ℕ)
+all_fronts = codes "cores " ∷ after_cores
 
 abbrev pub numbers_of : Geometry → List ℕ
 numbers_of shape = shape.cores ∷ shape.quantum ∷ shape.line_words ∷ shape.sets ∷ shape.ways ∷ shape.memory ∷ shape.slots ∷ []
@@ -106,30 +105,46 @@ same_shapes a b e = ap shape_of e
 regroup : (p a b c d e f g rest : List ℕ) → (p ++ (a ++ b ++ c ++ d ++ e ++ f ++ g)) ++ rest ≡ p ++ ((a ++ (b ++ (c ++ (d ++ (e ++ (f ++ (g ++ []))))))) ++ rest)
 regroup p a b c d e f g rest = simp append_assoc
 
-pub by_lines : (shape : Geometry) (rest : List ℕ) → head_text shape ++ rest ≡ codes "pmsi 1\n" ++ (lines_text fronts (numbers_of shape) ++ rest)
+pub by_lines : (shape : Geometry) (rest : List ℕ) → head_text shape ++ rest ≡ codes "pmsi 1\n" ++ (lines_text all_fronts (numbers_of shape) ++ rest)
 by_lines shape rest =
     regroup (codes "pmsi 1\n") (number_text (codes "cores ") shape.cores) (number_text (codes "quantum ") shape.quantum) (number_text (codes "line ") shape.line_words)
     (number_text (codes "sets ") shape.sets) (number_text (codes "ways ") shape.ways) (number_text (codes "memory ") shape.memory) (number_text (codes "slots ") shape.slots) rest
 
-pub fits_lines : (shape : Geometry) → FitsShape shape → LinesFit fronts (numbers_of shape)
+pub fits_lines : (shape : Geometry) → FitsShape shape → LinesFit all_fronts (numbers_of shape)
 fits_lines shape fit = (fit.cores, (fit.quantum, (fit.line_words, (fit.sets, (fit.ways, (fit.memory, (fit.slots, tt)))))))
 
 pub no_version : (bytes : List ℕ) → ((rest : List ℕ) → bytes ≢ codes "pmsi 1\n" ++ rest) → Reads head_text FitsShape bytes None
-no_version bytes none = record { found = tt; only = λ shape rest fit e. absurd (none (lines_text fronts (numbers_of shape) ++ rest) (e ∙ by_lines shape rest)) }
+no_version bytes none = record { found = tt; only = λ shape rest fit e. absurd (none (lines_text all_fronts (numbers_of shape) ++ rest) (e ∙ by_lines shape rest)) }
 
-after_version : (bytes after : List ℕ) (shape : Geometry) (rest : List ℕ) → bytes ≡ codes "pmsi 1\n" ++ after → bytes ≡ head_text shape ++ rest → after ≡ lines_text fronts (numbers_of shape) ++ rest
-after_version bytes after shape rest has e = append_cancel_left (codes "pmsi 1\n") after (lines_text fronts (numbers_of shape) ++ rest) (sym has ∙ e ∙ by_lines shape rest)
+after_version : (bytes after : List ℕ) (shape : Geometry) (rest : List ℕ) → bytes ≡ codes "pmsi 1\n" ++ after → bytes ≡ head_text shape ++ rest → after ≡ lines_text all_fronts (numbers_of shape) ++ rest
+after_version bytes after shape rest has e = append_cancel_left (codes "pmsi 1\n") after (lines_text all_fronts (numbers_of shape) ++ rest) (sym has ∙ e ∙ by_lines shape rest)
 
-pub no_shape : (bytes after : List ℕ) → bytes ≡ codes "pmsi 1\n" ++ after → ReadsLines fronts after None → Reads head_text FitsShape bytes None
+pub no_shape : (bytes after : List ℕ) → bytes ≡ codes "pmsi 1\n" ++ after → ReadsLines all_fronts after None → Reads head_text FitsShape bytes None
 no_shape bytes after has none = record {
   found = tt;
   only = λ shape rest fit e. let some = none.only (numbers_of shape) rest (fits_lines shape fit) (after_version bytes after shape rest has e) in absurd cc;
 }
 
-pub a_shape : (bytes after : List ℕ) (shape : Geometry) (end : List ℕ) → bytes ≡ codes "pmsi 1\n" ++ after → ReadsLines fronts after (Some (numbers_of shape, end)) → Reads head_text FitsShape bytes (Some (shape, end))
+pub a_shape : (bytes after : List ℕ) (shape : Geometry) (end : List ℕ) → bytes ≡ codes "pmsi 1\n" ++ after → ReadsLines all_fronts after (Some (numbers_of shape, end)) → Reads head_text FitsShape bytes (Some (shape, end))
 a_shape bytes after shape end has some = record {
   found = has ∙ ap (λ (bs : List ℕ). codes "pmsi 1\n" ++ bs) some.found ∙ sym (by_lines shape end);
   only = λ other rest fit e.
       let at = some.only (numbers_of other) rest (fits_lines other fit) (after_version bytes after other rest has e) in
       same_pairs shape other end rest (same_shapes shape other (firsts (numbers_of shape) (numbers_of other) end rest at)) (seconds (numbers_of shape) (numbers_of other) end rest at);
 }
+
+-- ---- the lines of a shape are read as that shape
+
+lines_read : (fronts : List (List ℕ)) (ns rest : List ℕ) → LinesFit fronts ns → ReadsLines fronts (lines_text fronts ns ++ rest) (Some (ns, rest))
+lines_read [] [] rest fit = ends rest
+lines_read [] (n ∷ ns) rest fit = absurd fit
+lines_read (front ∷ fronts) [] rest fit = absurd fit
+lines_read (front ∷ fronts) (n ∷ ns) rest fit =
+    let others = lines_text fronts ns ++ rest in
+    let whole : number_text front n ++ others ≡ (number_text front n ++ lines_text fronts ns) ++ rest = sym (append_assoc (number_text front n) (lines_text fronts ns) rest) in
+    let read = then_some front fronts (number_text front n ++ others) n others ns rest (number_reads front n others fit.0) (lines_read fronts ns rest fit.1) in
+    subst (λ (bs : List ℕ). ReadsLines (front ∷ fronts) bs (Some (n ∷ ns, rest))) whole read
+
+pub shape_reads : (shape : Geometry) (rest : List ℕ) → FitsShape shape → Reads head_text FitsShape (head_text shape ++ rest) (Some (shape, rest))
+shape_reads shape rest fit =
+    a_shape (head_text shape ++ rest) (lines_text all_fronts (numbers_of shape) ++ rest) shape rest (by_lines shape rest) (lines_read all_fronts (numbers_of shape) rest (fits_lines shape fit))

@@ -1,5 +1,5 @@
 -- The texts of words: the words are told by them, one after the other.
-use Rattle.std.proofs.Common.{◌≡◌, ◌≢◌, ℕ, zero, suc, ◌+◌, ◌*◌, ◌^◌, ◌<◌, ◌≤◌, List, [], ◌∷◌, ◌++◌, Option, Some, None, length, take, drop, refl, sym, ap, ◌∙◌, All, append_assoc, decimal, Bor, option_map, arith}
+use Rattle.std.proofs.Common.{◌≡◌, ◌≢◌, ℕ, ◌+◌, ◌*◌, ◌^◌, ◌<◌, ◌≤◌, List, [], ◌∷◌, ◌++◌, Option, Some, None, length, take, drop, refl, sym, ap, ◌∙◌, All, append_assoc, Bor, option_map, arith}
 use Rattle.std.specs.Prelude.{codes, IfSome, IfOk, IfErr, MatchOption, Result, Ok, Err}
 use Rattle.std.specs.Global.{Vec}
 use Rattle.std.specs.List.{flat_map}
@@ -141,3 +141,6 @@ pub line_only : (bytes texts : List ℕ) (r : Result (Vec ℕ) JobFault) → ((o
     → IfErr r (λ f. f ≡ NotBuilt → (words : List ℕ) → All IsSmall words → length words ≤ MAX_TEXT_WORDS → bytes ≡ words_line 0 words → ⊥)
 line_only bytes texts (Ok v) only none = tt
 line_only bytes texts (Err f) only none = λ is words small fits e. none is words small fits (some_is texts (flat_map word_text words) (only (flat_map word_text words) (e ∙ line_parts words)))
+
+pub part_of_line : (words others : List ℕ) → codes "core 0 hex" ++ flat_map word_text words ++ codes "\n" ≡ codes "core 0 hex" ++ flat_map word_text others ++ codes "\n" → flat_map word_text words ≡ flat_map word_text others
+part_of_line words others e = append_cancel_right (flat_map word_text words) (flat_map word_text others) (codes "\n") (ap (λ (bs : List ℕ). drop 10 bs) e)

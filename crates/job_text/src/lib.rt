@@ -1,4 +1,5 @@
-//! Job texts.
+//! Reads the text of a job. So far the text of one core is read, whose program is given as words; every other text is
+//! `JobFault::NotBuilt`.
 #![tactic(auto)]
 
 ghost use Rattle.std.specs.Prelude.{◌≡◌, ℕ, ◌^◌, ◌<◌, ◌≤◌, List, IfOk, IfErr};
@@ -8,10 +9,11 @@ ghost use Rattle.job_text.specs.JobText.{IsTextOf, words_line};
 
 mod fault;
 mod heads;
+#[cfg(test)]
+mod tests;
 mod words;
 
 pub use fault::JobFault;
-
 use heads::heads_of;
 use pmsi_model::{Bytes, Job, WordLists, Words};
 use std::alloc::Global;
@@ -22,7 +24,9 @@ pub fn read_job(alloc: Global, bytes: &[u8]) -> Result<Job, JobFault>
     ensures job { IfOk result (λ job. IsTextOf job bytes.now) }
     ensures not_built { IfErr result (λ e. e ≡ JobFault.NotBuilt → (job : JobValue) → IsTextOf job bytes.now → ⊥) }
 {
-    let (shape, rest) = heads_of(bytes).ok_or(JobFault::NotBuilt)?;
+    let Some((shape, rest)) = heads_of(bytes) else {
+        return Err(JobFault::NotBuilt);
+    };
     if shape.cores != 1 || !shape.is_within_limits() {
         return Err(JobFault::NotBuilt);
     }
@@ -32,3 +36,8 @@ pub fn read_job(alloc: Global, bytes: &[u8]) -> Result<Job, JobFault>
     let start = vec![in alloc; 0; shape.memory as usize]?;
     Ok(Job::new(shape, WordLists::from_vec(texts), Bytes::from_vec(start)))
 }
+
+/// One text is the text of one job at most.
+pub fn texts_differ()
+    ensures { (job other : JobValue) → (text : List ℕ) → IsTextOf job text → IsTextOf other text → job ≡ other }
+{}

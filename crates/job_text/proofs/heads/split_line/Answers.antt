@@ -1,4 +1,4 @@
-use Rattle.std.proofs.Common.{◌≡◌, ℕ, eqb, List, Option, Some, None, sym, ap, ◌∙◌}
+use Rattle.std.proofs.Common.{eqb, sym, ◌∙◌}
 use Rattle.std.proofs.lemmas.Bool.{eqb-true}
 use Rattle.std.proofs.lemmas.List.Quantifiers.{position-Some}
 use Rattle.job_text.proofs.Decimal.{found_newline, at_newline, both_parts}

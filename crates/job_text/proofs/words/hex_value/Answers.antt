@@ -1,4 +1,4 @@
-use Rattle.std.proofs.Common.{rules, ◌≡◌, ℕ, ◌^◌, ◌<◌, ◌≤◌, length, get_or, Some, ap, ◌∙◌, arith}
+use Rattle.std.proofs.Common.{ℕ, get_or, Some, ap, ◌∙◌, arith}
 use Rattle.job_text.proofs.Hex.{hex_at, reads_digit, below_more_digits, below_seven, reads_digits}
 use Rattle.job_text.proofs.words.hex_value.Goals as goal
 
@@ -13,9 +13,10 @@ returns-in_err-word-clause-only c = λ w small e.
     absurd cc
 
 pub loop-digit-preserved : goal.loop-digit-preserved
-loop-digit-preserved c =
-    (reads_digit c.args.digits.now c.loop-digit.digit-index c.loop-digit.word c.in_ok-word.field-0 (omega arith) c.loop-digit.invariant.0 c.in_ok-word.ensures.found.0 c.in_ok-word.ensures.found.1,
-    below_more_digits c.loop-digit.digit-index c.loop-digit.word c.in_ok-word.field-0 c.loop-digit.invariant.1 c.in_ok-word.ensures.found.0)
+loop-digit-preserved c = (
+  reads_digit c.args.digits.now c.loop-digit.digit-index c.loop-digit.word c.in_ok-word.field-0 (omega arith) c.loop-digit.invariant.0 c.in_ok-word.ensures.found.0 c.in_ok-word.ensures.found.1,
+  below_more_digits c.loop-digit.digit-index c.loop-digit.word c.in_ok-word.field-0 c.loop-digit.invariant.1 c.in_ok-word.ensures.found.0,
+)
 
 pub returns-clause-only : goal.returns-clause-only
 returns-clause-only c = λ w small e.

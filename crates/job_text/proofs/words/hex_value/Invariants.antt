@@ -1,4 +1,4 @@
-use Rattle.std.proofs.Common.{◌≡◌, ℕ, ◌^◌, ◌<◌, take}
+use Rattle.std.proofs.Common.{◌≡◌, ◌^◌, ◌<◌, take}
 use Rattle.pmsi_model.specs.Lines.{hex_digits}
 use Rattle.job_text.proofs.words.hex_value.Given as goal
 

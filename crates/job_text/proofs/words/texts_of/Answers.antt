@@ -1,8 +1,8 @@
-use Rattle.std.proofs.Common.{◌≡◌, ℕ, List, Some, None}
+use Rattle.std.proofs.Common.{Some}
 use Rattle.std.specs.Prelude.{codes}
 use Rattle.std.proofs.lemmas.Bool.Decides.{Decides-eqb}
 use Rattle.std.proofs.lemmas.Slice.Eq.{strip_prefix_is, strip_suffix_is}
-use Rattle.job_text.proofs.WordTexts.{no_part, part_found, part_only}
+use Rattle.job_text.proofs.WordTexts.{part_found, part_only}
 use Rattle.job_text.proofs.words.texts_of.Goals as goal
 
 pub returns-clause-found : goal.returns-clause-found

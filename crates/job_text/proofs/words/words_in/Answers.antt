@@ -1,4 +1,4 @@
-use Rattle.std.proofs.Common.{◌≡◌, ℕ, ◌<◌, ◌≤◌, List, length, sym, arith}
+use Rattle.std.proofs.Common.{◌≡◌, ◌<◌, length, sym, arith}
 use Rattle.std.proofs.lemmas.Bool.{eqb-true, eqb-false}
 use Rattle.pmsi_model.specs.declared.limits.TheConstants.{MAX_TEXT_WORDS}
 use Rattle.job_text.proofs.WordTexts.{too_many, stuck, few, at_end}
@@ -14,7 +14,8 @@ returns-in_default-clause-not_built c = λ _ words small fits e.
 
 pub returns-clause-words : goal.returns-clause-words
 returns-clause-words c =
-    let end : length c.loop-rest.rest.now ≡ 0 = eqb-true (length c.loop-rest.rest.now) 0 (sym c.loop-rest-test.ensures) in
-    (at_end c.args.texts.now c.loop-rest.rest.now c.loop-rest.words.items c.loop-rest.invariant.0 end,
-    few c.args.texts.now c.loop-rest.rest.now c.loop-rest.words.items MAX_TEXT_WORDS c.loop-rest.invariant.0 (omega arith),
-    c.loop-rest.invariant.1)
+    let end : length c.loop-rest.rest.now ≡ 0 = eqb-true (length c.loop-rest.rest.now) 0 (sym c.loop-rest-test.ensures) in (
+      at_end c.args.texts.now c.loop-rest.rest.now c.loop-rest.words.items c.loop-rest.invariant.0 end,
+      few c.args.texts.now c.loop-rest.rest.now c.loop-rest.words.items MAX_TEXT_WORDS c.loop-rest.invariant.0 (omega arith),
+      c.loop-rest.invariant.1,
+    )

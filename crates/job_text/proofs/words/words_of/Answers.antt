@@ -1,4 +1,3 @@
-use Rattle.std.proofs.Common.{◌≡◌, ℕ, List, Some, None}
 use Rattle.job_text.proofs.WordTexts.{no_line, line_found, line_only}
 use Rattle.job_text.proofs.words.words_of.Goals as goal
 
