@@ -2,10 +2,9 @@
 //! `JobFault::NotBuilt`.
 #![tactic(auto)]
 
-ghost use Rattle.std.specs.Prelude.{◌≡◌, ℕ, ◌^◌, ◌<◌, ◌≤◌, List, IfOk, IfErr};
-ghost use Rattle.std.specs.List.{All};
+ghost use Rattle.std.specs.Prelude.{◌≡◌, ℕ, List, IfOk, IfErr};
 ghost use Rattle.pmsi_model.specs.Job.{JobValue};
-ghost use Rattle.job_text.specs.JobText.{IsTextOf, words_line};
+ghost use Rattle.job_text.specs.JobText.{IsTextOf};
 
 mod fault;
 mod heads;
