@@ -16,8 +16,8 @@ mod lists;
 pub use image::{Image, Piece};
 pub use instr::{AmoOp, BranchOp, ImmOp, Instr, LoadOp, Reg, RegOp, StoreOp};
 pub use job::{Geometry, Job};
-pub use lists::{Bytes, Pieces, Utf8Text, WordLists, Words};
-use std::alloc::AllocError;
+pub use lists::{Bytes, Pieces, Sequence, Utf8Text, WordLists, Words};
+use std::alloc::{AllocError, AllocFailed};
 
 /// What a request asks for: a copy to read, or the only copy, to write. An AMO is a write.
 #[derive(Clone, Copy, Debug, PartialEq, Eq)]
@@ -230,6 +230,12 @@ pub struct NoMemory;
 
 impl From<AllocError> for NoMemory {
     fn from(_: AllocError) -> NoMemory {
+        NoMemory
+    }
+}
+
+impl<T: Drop> From<AllocFailed<T>> for NoMemory {
+    fn from(_: AllocFailed<T>) -> NoMemory {
         NoMemory
     }
 }
