@@ -31,13 +31,13 @@ use Rattle.coherence_laws.proofs.Phases.{phases_whole}
 -- ---- the action of a slot
 
 -- where none of the job's cores owns a line no core does
-nobody_at_all : (shape : Geometry) (slot : ℕ) (x : Machine) (line : ℕ) → IsWhole shape slot x.posted x.cores
+pub nobody_at_all : (shape : Geometry) (slot : ℕ) (x : Machine) (line : ℕ) → IsWhole shape slot x.posted x.cores
     → nobody_owns x shape.cores line ≡ true → (d : ℕ) → mode_in x d line ≢ Some Modified
 nobody_at_all shape slot x line w nobody d owned = dite (dec_le shape.cores d)
     (λ past. let none : mode_in x d line ≡ None = ap (mode_of line) (w.outside d past) in grind arith)
     (λ below. nobody_below x shape.cores line nobody d (omega arith) owned)
 
-kind_named : (kind : Kind) (mode : Option Mode) → kind_of_name (name_of kind mode) ≡ kind
+pub kind_named : (kind : Kind) (mode : Option Mode) → kind_of_name (name_of kind mode) ≡ kind
 kind_named Read mode = refl
 kind_named Write mode = grind arith
 
@@ -49,12 +49,12 @@ served_now : (job : JobValue) (x : Machine) (c : ℕ) (want : Want) → (x.cores
 served_now job x c want is posted now =
     let can : can_request_for job x c (Some want) ≡ true = subst (λ o. can_request_for job x c o ≡ true) is (grind arith) in grind arith
 
-unposted_now : (job : JobValue) (x : Machine) (c : ℕ) (want : Want) → (x.cores c).want ≡ Some want → is_some want.post ≡ false
+pub unposted_now : (job : JobValue) (x : Machine) (c : ℕ) (want : Want) → (x.cores c).want ≡ Some want → is_some want.post ≡ false
     → requests_now job x c ≡ true → want.victim ≡ None
 unposted_now job x c want is posted now =
     let can : can_request_for job x c (Some want) ≡ true = subst (λ o. can_request_for job x c o ≡ true) is (grind arith) in grind arith
 
-post_fill_whole : (job : JobValue) (x : Machine) (c : ℕ) (want : Want) → IsWhole job.shape (x.slot + 1) x.posted x.cores
+pub post_fill_whole : (job : JobValue) (x : Machine) (c : ℕ) (want : Want) → IsWhole job.shape (x.slot + 1) x.posted x.cores
     → c < job.shape.cores → (x.cores c).want ≡ Some want → want.post ≡ None → want.victim ≡ None
     → nobody_owns (post x c want.kind want.line) job.shape.cores want.line ≡ true
     → IsWhole job.shape (x.slot + 1) (fill (post x c want.kind want.line) c).posted (fill (post x c want.kind want.line) c).cores

@@ -7,6 +7,11 @@ pub by_test : {A : Type 0} (P : A → Type 0) (b : Bool) (t e : A) → (b ≡ tr
 by_test P true t e on_true on_false = on_true refl
 by_test P false t e on_true on_false = on_false refl
 
+-- a test is true or false
+pub by_bool : {P : Type 0} (b : Bool) → (b ≡ true → P) → (b ≡ false → P) → P
+by_bool true on_true on_false = on_true refl
+by_bool false on_true on_false = on_false refl
+
 -- ---- one core becomes another
 
 -- what holds of the new core, and of the others as they were, holds of all
