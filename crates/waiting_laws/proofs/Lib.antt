@@ -1,0 +1,12 @@
+pub mod Distances
+pub mod Numbers
+pub mod Quiet
+pub mod Steps
+pub mod Stays
+pub mod Asks
+pub mod Requests
+pub mod Backs
+pub mod Phases
+pub mod Actions
+pub mod Slots
+pub mod Rows
