@@ -1,0 +1,118 @@
+//! The head of a listing, and the three lines of a core.
+ghost use Rattle.std.specs.Prelude.{◌≡◌, ℕ, ◌++◌, codes, OnOk};
+ghost use Rattle.std.specs.List.{flat_map};
+ghost use Rattle.pmsi_model.specs.Lines.{shape_line, halt_text, status_text, core_line, regs_line, mode_text, held_text, held_line};
+ghost use Rattle.listing.specs.Regs.{reg_text};
+
+use crate::text::{push_field, push_hex_field, push_number, push_text};
+use pmsi_model::{Geometry, Halt, Mode, Status};
+use std::alloc::AllocError;
+
+/// Appends the line of a machine's shape.
+#[tactic(auto, unfolding(pmsi_model::specs::Lines::shape_line))]
+pub fn push_shape_line(out: &mut Vec<u8>, shape: &Geometry) -> Result<(), AllocError>
+    ensures { OnOk result (out.new.items ≡ out.old.items ++ shape_line shape.now) }
+{
+    push_field(out, "cores ", u64::from(shape.cores))?;
+    push_field(out, " quantum ", u64::from(shape.quantum))?;
+    push_field(out, " line ", u64::from(shape.line_words))?;
+    push_field(out, " sets ", u64::from(shape.sets))?;
+    push_field(out, " ways ", u64::from(shape.ways))?;
+    push_field(out, " memory ", u64::from(shape.memory))?;
+    push_field(out, " slots ", u64::from(shape.slots))?;
+    push_text(out, "\n")
+}
+
+fn push_halt(out: &mut Vec<u8>, halt: Halt) -> Result<(), AllocError>
+    ensures { OnOk result (out.new.items ≡ out.old.items ++ halt_text halt) }
+{
+    match halt {
+        Halt::Exit(code) => push_field(out, "exit ", u64::from(code)),
+        Halt::Break => push_text(out, "break"),
+        Halt::Illegal(word) => push_hex_field(out, "illegal ", word),
+        Halt::FetchRange(pc) => push_hex_field(out, "fetch ", pc),
+        Halt::JumpMisaligned(target) => push_hex_field(out, "jump ", target),
+        Halt::Misaligned(address) => push_hex_field(out, "misaligned ", address),
+        Halt::Range(address) => push_hex_field(out, "range ", address),
+    }
+}
+
+fn push_status(out: &mut Vec<u8>, status: Status) -> Result<(), AllocError>
+    ensures { OnOk result (out.new.items ≡ out.old.items ++ status_text status) }
+{
+    match status {
+        Status::Running => push_text(out, "running"),
+        Status::Halted(halt) => push_halt(out, halt),
+    }
+}
+
+/// Appends the first line of a core: its pc, its retired instructions and its status.
+#[tactic(auto, unfolding(pmsi_model::specs::Lines::core_line))]
+pub fn push_core_line(
+    out: &mut Vec<u8>,
+    core: u32,
+    pc: u32,
+    retired: u64,
+    status: Status,
+) -> Result<(), AllocError>
+    ensures { OnOk result (out.new.items ≡ out.old.items ++ core_line core pc retired status) }
+{
+    push_field(out, "core ", u64::from(core))?;
+    push_hex_field(out, " pc ", pc)?;
+    push_field(out, " retired ", retired)?;
+    push_text(out, " ")?;
+    push_status(out, status)?;
+    push_text(out, "\n")
+}
+
+/// Appends a register of a core, unless it is 0.
+fn push_reg(out: &mut Vec<u8>, number: usize, value: u32) -> Result<(), AllocError>
+    ensures { OnOk result (out.new.items ≡ out.old.items ++ reg_text number value) }
+{
+    if value == 0 {
+        return Ok(());
+    }
+    push_field(out, " x", number as u64)?;
+    push_hex_field(out, "=", value)
+}
+
+/// Appends the second line of a core: each register that isn't 0.
+#[tactic(auto, unfolding(pmsi_model::specs::Lines::regs_line))]
+pub fn push_regs_line(out: &mut Vec<u8>, regs: &[u32]) -> Result<(), AllocError>
+    ensures { OnOk result (out.new.items ≡ out.old.items ++ regs_line regs.now) }
+{
+    push_text(out, "regs")?;
+    for (number, value) in regs.iter().enumerate() {
+        push_reg(out, number, *value)?;
+    }
+    push_text(out, "\n")
+}
+
+fn mode_name(mode: Mode) -> &'static str
+    ensures { result.now ≡ mode_text mode }
+{
+    match mode {
+        Mode::Shared => ":S",
+        Mode::Modified => ":M",
+    }
+}
+
+/// Appends one held line of a core, with its mode.
+pub fn push_held(out: &mut Vec<u8>, line: u32, mode: Mode) -> Result<(), AllocError>
+    ensures { OnOk result (out.new.items ≡ out.old.items ++ held_text (line, mode)) }
+{
+    push_field(out, " ", u64::from(line))?;
+    push_text(out, mode_name(mode))
+}
+
+/// Appends the third line of a core: the lines that it holds.
+#[tactic(auto, unfolding(pmsi_model::specs::Lines::held_line))]
+pub fn push_held_line(out: &mut Vec<u8>, held: &[(u32, Mode)]) -> Result<(), AllocError>
+    ensures { OnOk result (out.new.items ≡ out.old.items ++ held_line held.now) }
+{
+    push_text(out, "held")?;
+    for (line, mode) in held {
+        push_held(out, *line, *mode)?;
+    }
+    push_text(out, "\n")
+}
