@@ -1,0 +1,10 @@
+pub mod Table
+pub mod Agreement
+pub mod Steps
+pub mod Acts
+pub mod Machines
+pub mod Safe
+pub mod Evictions
+pub mod Quanta
+pub mod Acting
+pub mod Sims

@@ -1,0 +1,7 @@
+pub mod Words
+pub mod Fetched
+pub mod Rows
+pub mod Agrees
+pub mod State
+pub mod Stands
+pub mod Sims
