@@ -82,6 +82,13 @@ impl CacheArray {
             .map(|entry| (entry.line, entry.mode))
     }
 
+    /// How many lines are held.
+    pub fn held_count(&self) -> u32
+        ensures { result ≡ length (held_of self.now.lines) }
+    {
+        self.entries.len() as u32
+    }
+
     /// The mode of a line.
     pub fn find(&self, line: u32) -> Option<Mode>
         ensures mode { result ≡ mode_of line (held_of self.now.lines) }

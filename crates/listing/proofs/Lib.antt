@@ -1,2 +1,4 @@
 pub mod Texts
 pub mod Sums
+pub mod Sixteens
+pub mod Parts

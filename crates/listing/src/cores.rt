@@ -1,7 +1,6 @@
 //! The head of a listing, and the three lines of a core.
 ghost use Rattle.std.specs.Prelude.{◌≡◌, ℕ, ◌++◌, codes, OnOk};
-ghost use Rattle.std.specs.List.{flat_map};
-ghost use Rattle.pmsi_model.specs.Lines.{shape_line, halt_text, status_text, core_line, regs_line, mode_text, held_text, held_line};
+ghost use Rattle.pmsi_model.specs.Lines.{shape_line, halt_text, status_text, core_line, regs_line, mode_text, held_text};
 ghost use Rattle.listing.specs.Regs.{reg_text};
 
 use crate::text::{push_field, push_hex_field, push_number, push_text};
@@ -103,16 +102,4 @@ pub fn push_held(out: &mut Vec<u8>, line: u32, mode: Mode) -> Result<(), AllocEr
 {
     push_field(out, " ", u64::from(line))?;
     push_text(out, mode_name(mode))
-}
-
-/// Appends the third line of a core: the lines that it holds.
-#[tactic(auto, unfolding(pmsi_model::specs::Lines::held_line))]
-pub fn push_held_line(out: &mut Vec<u8>, held: &[(u32, Mode)]) -> Result<(), AllocError>
-    ensures { OnOk result (out.new.items ≡ out.old.items ++ held_line held.now) }
-{
-    push_text(out, "held")?;
-    for (line, mode) in held {
-        push_held(out, *line, *mode)?;
-    }
-    push_text(out, "\n")
 }

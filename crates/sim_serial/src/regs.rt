@@ -32,6 +32,12 @@ impl Regs {
         Regs { values }
     }
 
+    pub fn as_slice(&self) -> &[u32]
+        ensures { result.now ≡ self.now }
+    {
+        self.values.as_slice()
+    }
+
     pub fn get(&self, r: Reg) -> u32
         ensures { result ≡ reg_of self.now r }
     {

@@ -1,7 +1,8 @@
 //! The simulator of a whole machine on one thread.
-ghost use Rattle.std.specs.Prelude.{◌≡◌, ℕ, ◌+◌, ◌%◌, ◌<◌, false, IfOk, length, slice_get};
+ghost use Rattle.std.specs.Prelude.{◌≡◌, ℕ, ◌+◌, ◌%◌, ◌<◌, ◌≤◌, false, IfOk, length, slice_get};
 ghost use Rattle.std.specs.List.{filter};
 ghost use Rattle.std.specs.Prelude.{◌==◌};
+ghost use Rattle.pmsi_model.specs.declared.limits.TheConstants.{MAX_SLOTS};
 ghost use Rattle.pmsi_model.specs.Effect.{reg_of};
 ghost use Rattle.pmsi_model.specs.Geometry.{IsGeometry};
 ghost use Rattle.pmsi_model.specs.Job.{JobValue};
@@ -129,10 +130,21 @@ impl Sim {
         self.state.cache.held(place)
     }
 
-    /// The requests of a core that were served, by the slot of their fill.
+    /// How many lines a core holds.
+    pub fn held_count(&self, c: u32) -> u32
+        requires { c < (shape_of self.now).cores }
+        ensures { (job : JobValue) (slot : ℕ) → IsSimOf job slot self.now → result ≡ length ((machine_at job slot).cores c).held }
+    {
+        self.state.cache.held_count()
+    }
+
+    /// The requests of a core that were served, by the slot of their fill: at most one a slot, and with one core these are
+    /// all that were served.
     pub fn rows(&self, c: u32) -> &[Row]
         requires { c < (shape_of self.now).cores }
-        ensures { (job : JobValue) (slot : ℕ) → IsSimOf job slot self.now → result.now ≡ filter (λ row. row.core == c) (rows_of job slot) }
+        ensures own { (job : JobValue) (slot : ℕ) → IsSimOf job slot self.now → result.now ≡ filter (λ row. row.core == c) (rows_of job slot) }
+        ensures all { (job : JobValue) (slot : ℕ) → IsSimOf job slot self.now → (shape_of self.now).cores ≡ 1 → result.now ≡ rows_of job slot }
+        ensures few { length result.now ≤ MAX_SLOTS }
     {
         self.state.rows.as_slice()
     }
@@ -157,6 +169,14 @@ impl Sim {
         ensures { (job : JobValue) (slot : ℕ) → IsSimOf job slot self.now → result ≡ reg_of ((machine_at job slot).cores c).regs r }
     {
         self.state.regs.get(r)
+    }
+
+    /// The 32 registers of a core.
+    pub fn regs(&self, c: u32) -> &[u32]
+        requires { c < (shape_of self.now).cores }
+        ensures { (job : JobValue) (slot : ℕ) → IsSimOf job slot self.now → result.now ≡ ((machine_at job slot).cores c).regs }
+    {
+        self.state.regs.as_slice()
     }
 
     pub fn status(&self, c: u32) -> Status

@@ -1,7 +1,0 @@
-use Rattle.std.proofs.Common.{◌≡◌, ◌++◌, take}
-use Rattle.std.specs.List.{flat_map}
-use Rattle.pmsi_model.specs.Lines.{held_text}
-use Rattle.listing.proofs.cores.push_held_line.Given as goal
-
-abbrev pub invariant-loop-line : goal.invariant-loop-line
-invariant-loop-line l = l.out.items ≡ l.initial.out.items ++ flat_map held_text (take l.line-index l.held)
