@@ -1,5 +1,6 @@
 -- The rows of the instruction table, by the fields of a word.
-use Rattle.std.proofs.Common.{◌≡◌, ◌≢◌, ℕ, ◌^◌, ◌<◌, [], ◌∷◌, Some, None, true, false, refl, arith}
+use Rattle.std.proofs.Common.{◌≡◌, ◌≢◌, ℕ, ◌^◌, ◌<◌, [], ◌∷◌, Some, None, true, false, nat_eq, refl, arith}
+use Rattle.std.specs.Prelude.{is_some}
 use Rattle.pmsi_model.specs.declared.instr.Instr.TheVariants.{Load, Store, OpImm, Op, Ecall}
 use Rattle.pmsi_model.specs.declared.instr.LoadOp.TheVariants.{Lw}
 use Rattle.pmsi_model.specs.declared.instr.StoreOp.TheVariants.{Sw}
@@ -36,3 +37,8 @@ pub no_row : (word : ℕ) → word < 2 ^ 32 → has_fields (opcode 19 ∷ funct3
     → has_fields (opcode 3 ∷ funct3 2 ∷ []) word ≡ false → has_fields (opcode 35 ∷ funct3 2 ∷ []) word ≡ false → word ≢ 115 → instr_of word ≡ None
 unfolding instr_of
 no_row word within addi add lw sw other = grind (arith, ecall_fields word within)
+
+-- a word that has none of the rows with fields has a row exactly where it is that of ecall
+pub last_row : (word : ℕ) → word < 2 ^ 32 → has_fields (opcode 19 ∷ funct3 0 ∷ []) word ≡ false → has_fields (opcode 51 ∷ funct3 0 ∷ funct7 0 ∷ []) word ≡ false
+    → has_fields (opcode 3 ∷ funct3 2 ∷ []) word ≡ false → has_fields (opcode 35 ∷ funct3 2 ∷ []) word ≡ false → nat_eq word 115 ≡ is_some (instr_of word)
+last_row word within addi add lw sw = grind (arith, ecall_row, no_row word within addi add lw sw)

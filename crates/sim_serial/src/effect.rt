@@ -1,5 +1,5 @@
 //! What an instruction comes to. Five instructions are executed: addi, add, lw, sw and ecall.
-ghost use Rattle.std.specs.Prelude.{◌≡◌, ◌⊎◌, ℕ, List, ◌^◌, ◌<◌, [], ◌∷◌};
+ghost use Rattle.std.specs.Prelude.{◌≡◌, ◌⊎◌, ℕ, List, ◌^◌, ◌<◌, [], ◌∷◌, is_some};
 ghost use Rattle.pmsi_model.specs.Words.{bits_at, plus_signed, signed, word_of};
 ghost use Rattle.pmsi_model.specs.Instruction.{funct3 as model_funct3, funct7 as model_funct7, has_fields, imm_i, imm_s, instr_of, opcode as model_opcode};
 ghost use Rattle.pmsi_model.specs.Effect.{access, asks as model_asks, reg_of};
@@ -123,6 +123,25 @@ fn is_add(word: u32) -> bool
     ensures { result ≡ has_fields (model_opcode OP ∷ model_funct3 0 ∷ model_funct7 0 ∷ []) word }
 {
     has(word, OP, 0) && funct7(word) == 0
+}
+
+/// Whether a word has a row in the instruction table.
+pub fn has_row(word: u32) -> bool
+    ensures { result ≡ is_some (instr_of word) }
+{
+    if has(word, OP_IMM, 0) {
+        return true;
+    }
+    if is_add(word) {
+        return true;
+    }
+    if has(word, LOAD, 2) {
+        return true;
+    }
+    if has(word, STORE, 2) {
+        return true;
+    }
+    word == ECALL
 }
 
 /// The effect of a fetched word.

@@ -9,4 +9,5 @@ mod rows;
 mod sim;
 mod state;
 
+pub use effect::has_row;
 pub use sim::Sim;
