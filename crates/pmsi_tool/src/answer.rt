@@ -1,0 +1,82 @@
+//! The answer to a call, before anything is written.
+ghost use Rattle.std.specs.Prelude.{◌≡◌, ◌≤◌, ℕ, List, map, length, string_bytes, false, IfOk, IfErr};
+ghost use Rattle.pmsi_model.specs.declared.limits.TheConstants.{MAX_FILE_BYTES};
+ghost use Rattle.pmsi_tool.specs.Results.{Reads, IsListed, Lists, RefusesAt};
+ghost use Rattle.pmsi_tool.specs.Statuses.{Stands, StandsAt};
+ghost use Rattle.pmsi_model.specs.Listing.{listing_of};
+
+use crate::complaint::{Complaint, Refusal};
+use crate::rows::first_without_row;
+use crate::words::run_name;
+use job_text::{JobFault, read_job};
+use listing::listing;
+use pmsi_model::{Job, Keep, NoMemory};
+use pmsi_outside::{Files, ReadAll, read_whole};
+use sim_serial::Sim;
+use std::alloc::Global;
+
+/// The result of the command that the words give, or what is to be told.
+pub(crate) fn answer_of<F: Files>(alloc: Global, words: &[String], files: &mut F) -> Result<Vec<u8>, Complaint>
+    ensures text { IfOk result (λ text. Lists (map string_bytes words.now) (F.contents files.old) text.items) }
+    ensures complaint { IfErr result (λ complaint. Stands (map string_bytes words.now) (F.contents files.old)
+        (F.faults files.old) (F.faults files.new) (F.blamed files.new) complaint) }
+    ensures contents { F.contents files.new ≡ F.contents files.old }
+{
+    let Some(name) = run_name(words) else {
+        return Err(Complaint::Usage);
+    };
+    let bytes = read_named(alloc, files, name)?;
+    run_text(alloc, bytes.as_slice())
+}
+
+/// The bytes of the file of this name.
+fn read_named<F: Files>(alloc: Global, files: &mut F, name: &str) -> Result<Vec<u8>, Complaint>
+    ensures bytes { IfOk result (λ bytes. Reads (F.contents files.old) name.now bytes.items × (length bytes.items ≤ MAX_FILE_BYTES)) }
+    ensures complaint { IfErr result (λ complaint. StandsAt (F.contents files.old) name.now
+        (F.faults files.old) (F.faults files.new) (F.blamed files.new) complaint) }
+    ensures contents { F.contents files.new ≡ F.contents files.old }
+{
+    let Ok(name) = String::from_str(alloc, name) else {
+        return Err(Complaint::NoMemory);
+    };
+    match read_whole(alloc, files, name) {
+        Ok(bytes) => Ok(bytes),
+        Err(ReadAll::Failed) => Err(Complaint::ReadFault),
+        Err(ReadAll::Large) => Err(Complaint::Refused(Refusal::Large)),
+        Err(ReadAll::NoMemory) => Err(Complaint::NoMemory),
+    }
+}
+
+/// The listing of the job that these bytes are the text of.
+fn run_text(alloc: Global, bytes: &[u8]) -> Result<Vec<u8>, Complaint>
+    requires { length bytes.now ≤ MAX_FILE_BYTES }
+    ensures text { IfOk result (λ text. IsListed bytes.now text.items) }
+    ensures complaint { IfErr result (λ complaint. RefusesAt bytes.now complaint) }
+{
+    let job = match read_job(alloc, bytes) {
+        Ok(job) => job,
+        Err(JobFault::NotBuilt) => return Err(Complaint::Refused(Refusal::NotBuilt)),
+        Err(JobFault::NoMemory) => return Err(Complaint::NoMemory),
+    };
+    if let Some(word) = first_without_row(job.text(0).as_slice()) {
+        return Err(Complaint::Refused(Refusal::Word(word)));
+    }
+    match run_job(alloc, &job) {
+        Ok(text) => Ok(text),
+        Err(NoMemory) => Err(Complaint::NoMemory),
+    }
+}
+
+/// The listing of a job's run.
+fn run_job(alloc: Global, job: &Job) -> Result<Vec<u8>, NoMemory>
+    requires { job.now.shape.cores ≡ 1 }
+    ensures { IfOk result (λ text. text.items ≡ listing_of job.now) }
+{
+    let keep = Keep {
+        trace: false,
+        touches: false,
+    };
+    let mut sim = Sim::open(alloc, job, keep)?;
+    sim.run();
+    listing(alloc, &sim)
+}

@@ -1,0 +1,34 @@
+//! What is told on `err`.
+ghost use Rattle.std.specs.Prelude.{◌≡◌};
+
+use pmsi_model::NoMemory;
+
+/// Why the file that the words name gives no result.
+#[derive(Clone, Copy, Debug, PartialEq, Eq)]
+pub enum Refusal {
+    /// It has more than `MAX_FILE_BYTES` bytes.
+    Large,
+    /// It is no text of a job, in the form that is read so far.
+    NotBuilt,
+    /// This word of the job's text has no row in the instruction table; it is the first such word.
+    Word(u32),
+}
+
+/// An answer that is told on `err` by its line.
+#[derive(Clone, Copy, Debug, PartialEq, Eq)]
+pub enum Complaint {
+    Usage,
+    ReadFault,
+    Refused(Refusal),
+    NoMemory,
+}
+
+impl From<NoMemory> for Complaint {
+    ghost use Rattle.pmsi_tool.specs.declared.complaint.Complaint.TheVariants.{NoMemory};
+
+    ghost from_gives = { λ _ e. e ≡ NoMemory };
+
+    fn from(_: NoMemory) -> Complaint {
+        Complaint::NoMemory
+    }
+}
