@@ -16,7 +16,11 @@ use sim_serial::Sim;
 use std::alloc::Global;
 
 /// The result of the command that the words give, or what is to be told.
-pub(crate) fn answer_of<F: Files>(alloc: Global, words: &[String], files: &mut F) -> Result<Vec<u8>, Complaint>
+pub(crate) fn answer_of<F: Files>(
+    alloc: Global,
+    words: &[String],
+    files: &mut F,
+) -> Result<Vec<u8>, Complaint>
     ensures text { IfOk result (λ text. Lists (map string_bytes words.now) (F.contents files.old) text.items) }
     ensures complaint { IfErr result (λ complaint. Stands (map string_bytes words.now) (F.contents files.old)
         (F.faults files.old) (F.faults files.new) (F.blamed files.new) complaint) }

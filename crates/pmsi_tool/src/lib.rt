@@ -18,7 +18,6 @@ mod tell;
 mod words;
 
 use answer::answer_of;
-
 pub use complaint::{Complaint, Refusal};
 use pmsi_outside::{Files, Sink};
 use std::alloc::Global;
@@ -63,10 +62,10 @@ pub fn tool<F: Files, O: Sink, E: Sink>(
     ensures no_memory { result ≡ ToolStatus.NoMemory → Appends (E.held err.old) (E.held err.new) no_memory_line }
     ensures write_fault { result ≡ ToolStatus.WriteFault →
         OutFails (map string_bytes words.now) (F.contents files.old) (O.faults out.old) (O.faults out.new) (O.held out.old) (O.held out.new)
-            (E.faults err.old) (E.faults err.new) (E.held err.old) (E.held err.new)
+        (E.faults err.old) (E.faults err.new) (E.held err.old) (E.held err.new)
         ⊎ ((out.new ≡ out.old)
-            × ErrFails (map string_bytes words.now) (F.contents files.old) (F.faults files.old) (F.faults files.new) (F.blamed files.new)
-                (E.faults err.old) (E.faults err.new) (E.held err.old) (E.held err.new)) }
+        × ErrFails (map string_bytes words.now) (F.contents files.old) (F.faults files.old) (F.faults files.new) (F.blamed files.new)
+        (E.faults err.old) (E.faults err.new) (E.held err.old) (E.held err.new)) }
     ensures untouched { result ≢ ToolStatus.Done → result ≢ ToolStatus.WriteFault → out.new ≡ out.old }
     // An accepted job is never refused.
     ensures complete { (name held text : List ℕ) → IsRunOf (map string_bytes words.now) name → Holds (F.contents files.old) name held

@@ -9,4 +9,4 @@ returns-clause-text g c =
     let run : IsRunOf (map (string_bytes {Z = Global}) c.args.words.now) c.in-Some.name.now = search rules in
     let reads : Reads (g.F.Files.contents c.args.files.now) c.in-Some.name.now c.in_ok-bytes.bytes.items = c.in_ok-bytes.ensures.bytes.0 in
     if_ok (λ (text : Vec ℕ Global). IsListed c.as_slice.result.now text.items) (λ (text : Vec ℕ Global). Lists (map (string_bytes {Z = Global}) c.args.words.now) (g.F.Files.contents c.args.files.now) text.items) c.run_text.result
-      (λ text listed. lists_from (map (string_bytes {Z = Global}) c.args.words.now) (g.F.Files.contents c.args.files.now) c.in-Some.name.now c.in_ok-bytes.bytes.items text.items run reads (rw c.as_slice.ensures.value at listed)) c.run_text.ensures.text
+    (λ text listed. lists_from (map (string_bytes {Z = Global}) c.args.words.now) (g.F.Files.contents c.args.files.now) c.in-Some.name.now c.in_ok-bytes.bytes.items text.items run reads (rw c.as_slice.ensures.value at listed)) c.run_text.ensures.text
