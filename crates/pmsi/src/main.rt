@@ -1,7 +1,7 @@
 //! The program: its words, the files of the disk and the standard streams go to `tool`, and it ends with the status number.
 #![tactic(auto)]
 
-use pmsi_outside::{DiskFiles, StdSink};
+use pmsi_outside::{DiskFiles, StdSink, write_whole};
 use pmsi_tool::{ToolStatus, tool};
 use std::alloc::AllocError;
 use std::env;
@@ -28,7 +28,10 @@ fn run(rt: &HostRuntime) -> ToolStatus {
             &mut StdSink::new(rt.stdout()),
             &mut StdSink::new(rt.stderr()),
         ),
-        Err(AllocError) => ToolStatus::NoMemory,
+        Err(AllocError) => {
+            let _ = write_whole(&mut StdSink::new(rt.stderr()), b"no memory\n");
+            ToolStatus::NoMemory
+        }
     }
 }
 

@@ -38,7 +38,7 @@ pub enum ToolStatus {
 }
 
 /// Does the command that the words give; the program's name isn't among them. The whole result is made before its first
-/// byte is written to `out`. At a status other than `Done` one line goes to `err`.
+/// byte is written to `out`. At a status other than `Done` one line goes to `err`, or as much of it as `err` takes.
 pub fn tool<F: Files, O: Sink, E: Sink>(
     alloc: Global,
     words: &[String],

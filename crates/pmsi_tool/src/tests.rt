@@ -77,17 +77,22 @@ fn runs_jobs(rt: HostRuntime) -> Result<(), Fail> {
 #[test]
 fn tells_why_nothing_is_run(rt: HostRuntime) -> Result<(), Fail> {
     let alloc = rt.alloc();
-    let two_cores =
-        "pmsi 1\ncores 2\nquantum 1\nline 4\nsets 1\nways 1\nmemory 64\nslots 4\ncore 0 hex 00000073\n";
+    let two_cores = "pmsi 1\ncores 2\nquantum 1\nline 4\nsets 1\nways 1\nmemory 64\nslots 4\n";
     for (heads, line, told) in [
         (
             HEADS,
-            "core 0 hex 00700293 00100073 00000000\n",
+            "core 0 hex 00100073\n",
             "refused: input: word 0x00100073\n",
         ),
         (
+            HEADS,
+            "core 0 hex 00700293 0000000f 00100073\n",
+            "refused: input: word 0x0000000f\n",
+        ),
+        (two_cores, STORES, "refused: input: not built\n"),
+        (
             two_cores,
-            "core 1 hex 00000073\n",
+            "core 0 hex 00000073\ncore 1 hex 00000073\n",
             "refused: input: not built\n",
         ),
     ] {
@@ -100,6 +105,21 @@ fn tells_why_nothing_is_run(rt: HostRuntime) -> Result<(), Fail> {
         assert!(rt; out.bytes().is_empty());
         assert!(rt; err.bytes() == told.as_bytes());
     }
+    Ok(())
+}
+
+#[test]
+fn refuses_a_large_file(rt: HostRuntime) -> Result<(), Fail> {
+    let alloc = rt.alloc();
+    let bytes = vec![in alloc; 0u8; 16_777_217]?;
+    let mut files = SteadyFiles::new(listed(alloc, bytes)?);
+    let mut out = sink(alloc, 1024, Vec::new(alloc))?;
+    let mut err = sink(alloc, 1024, Vec::new(alloc))?;
+    let given = words(alloc, &["run", "a.job"])?;
+    let status = tool(alloc, &given, &mut files, &mut out, &mut err);
+    assert_eq!(rt; status, ToolStatus::Refused);
+    assert!(rt; out.bytes().is_empty());
+    assert!(rt; err.bytes() == b"refused: input: large\n".as_slice());
     Ok(())
 }
 
@@ -129,7 +149,7 @@ fn knows_its_words(rt: HostRuntime) -> Result<(), Fail> {
 #[test]
 fn a_failed_write_leaves_a_front(rt: HostRuntime) -> Result<(), Fail> {
     let alloc = rt.alloc();
-    let mut files = SteadyFiles::new(listed(alloc, job(alloc, HEADS, STORES)?)?);
+    let mut files = SteadyFiles::new(listed(alloc, job(alloc, HEADS, ADDS)?)?);
     let mut out = sink(alloc, 3, Vec::from_array(alloc, [2])?)?;
     let mut err = sink(alloc, 1024, Vec::new(alloc))?;
     let given = words(alloc, &["run", "a.job"])?;
