@@ -1,9 +1,9 @@
 -- The two readings of the instruction table agree, since any two of its rows fix one field in two ways.
-use Rattle.std.proofs.Common.{◌≡◌, ℕ, List, [], ◌∷◌, Some, Bool, true, false, not, ◌==◌, ◌&&◌, refl, arith, inl, inr, ◌⊎◌}
-use Rattle.std.specs.List.{list_any, list_all}
+use Rattle.std.proofs.Common.{◌≡◌, ℕ, ◌≤◌, length, List, [], ◌∷◌, Some, Bool, true, false, not, ◌==◌, ◌&&◌, refl, arith, inl, inr, ◌⊎◌}
+use Rattle.std.specs.List.{filter, list_any, list_all}
 use Rattle.pmsi_model.specs.declared.instr.Instr.{Instr}
 use Rattle.pmsi_model.specs.Words.{bits_at}
-use Rattle.pmsi_model.specs.Instruction.{Field, Encoding, has_fields, IsReadBy, read_by, instruction_rows, instr_of, ReadsOneWay}
+use Rattle.pmsi_model.specs.Instruction.{Field, Encoding, has_fields, IsReadBy, read_by, instruction_rows, instr_of, HasOneRow, ReadsOneWay}
 
 -- two fields are one, with two values
 abbrev differs : Field → Field → Bool
@@ -75,6 +75,21 @@ is_read : (rows : List Encoding) (word : ℕ) (instr : Instr) → read_by rows w
 is_read [] word instr read = grind arith
 is_read (row ∷ rows) word instr read = either (λ here. inl (here, first_is row rows word instr here read))
     (λ here. inr (is_read rows word instr (later_is row rows word instr here read))) (bool_cases (has_fields row.fixed word))
+
+-- no later row fits a word that this row fits, so none is left
+none_left : (row : Encoding) (rows : List Encoding) (word : ℕ) → list_all (λ other. conflicts row.fixed other.fixed) rows ≡ true → has_fields row.fixed word ≡ true →
+    filter (λ other. has_fields other.fixed word) rows ≡ []
+none_left row [] word apart here = refl
+none_left row (other ∷ rows) word apart here = grind (arith, none_left row rows word (apart_tail row other rows apart) here, conflicts_no row.fixed other.fixed word (apart_head row other rows apart) here)
+
+at_most_one : (rows : List Encoding) (word : ℕ) → are_apart rows ≡ true → length (filter (λ row. has_fields row.fixed word) rows) ≤ 1
+at_most_one [] word apart = omega arith
+at_most_one (row ∷ rows) word apart = either
+    (λ here. let none = none_left row rows word (first_apart row rows apart) here in grind arith)
+    (λ else_. let rest = at_most_one rows word (rest_apart row rows apart) in grind arith) (bool_cases (has_fields row.fixed word))
+
+pub has_one_row : HasOneRow
+has_one_row word = at_most_one instruction_rows word refl
 
 pub reads_one_way : ReadsOneWay
 unfolding instr_of

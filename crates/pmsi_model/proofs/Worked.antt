@@ -1,7 +1,8 @@
 -- The worked examples: the checker computes each value.
 use Rattle.std.proofs.Common.{refl}
 use Rattle.std.specs.Fmt.{digits}
-use Rattle.pmsi_model.specs.Examples.{AddsAndExits, TakesNoSlot, StoresAndLoads, TwoWriters, OpenAtTheEnd, ReaderBehindAnOwner, ReadBeforeWrite, SharedHoldersStore, ModifiedVictim, VictimAlreadyDemanded, LeastRecentlyUsed, ReadsWords, LargestBound}
+use Rattle.pmsi_model.specs.Examples.{AddsAndExits, TakesNoSlot, StoresAndLoads, TwoWriters, OpenAtTheEnd, ReaderBehindAnOwner, ReadBeforeWrite, SharedHoldersStore, ModifiedVictim, VictimAlreadyDemanded, LeastRecentlyUsed, ExecutesInstructions, LargestBound}
+use Rattle.pmsi_model.specs.ExampleWords.{ReadsWords}
 use Rattle.pmsi_model.specs.Instruction.{instr_of}
 use Rattle.pmsi_model.specs.Phase.{instruction, instructions, instruction_touches, phase, phase_touches, phases, phases_touches}
 use Rattle.pmsi_model.specs.Bus.{post, fill, write_back, action_of, after_action}
@@ -55,8 +56,91 @@ unfolding instr_of instruction instructions instruction_touches phase phase_touc
 least_recently_used = record { actions = refl; core = refl; used_again = refl; line_1_gone = refl; waits = refl }
 
 pub reads_words : ReadsWords
+unfolding instr_of
+reads_words = record {
+  lui = refl;
+  auipc = refl;
+  addi = refl;
+  slli = refl;
+  slti = refl;
+  sltiu = refl;
+  xori = refl;
+  srli = refl;
+  srai = refl;
+  ori = refl;
+  andi = refl;
+  add = refl;
+  sub = refl;
+  sll = refl;
+  slt = refl;
+  sltu = refl;
+  xor = refl;
+  srl = refl;
+  sra = refl;
+  or_ = refl;
+  and_ = refl;
+  jal = refl;
+  jal_back = refl;
+  jalr = refl;
+  beq = refl;
+  bne = refl;
+  blt = refl;
+  bge = refl;
+  bltu = refl;
+  bgeu = refl;
+  lb = refl;
+  lh = refl;
+  lw = refl;
+  lbu = refl;
+  lhu = refl;
+  sb = refl;
+  sh = refl;
+  sw = refl;
+  fence = refl;
+  fence_tso = refl;
+  ecall = refl;
+  ebreak = refl;
+  amoadd = refl;
+  amoswap = refl;
+  amoxor = refl;
+  amoor = refl;
+  amoand = refl;
+  amomin = refl;
+  amomax = refl;
+  amominu = refl;
+  amomaxu = refl;
+  no_word = refl;
+  all_ones = refl;
+  fence_i = refl;
+  lr = refl;
+  sc = refl;
+  mul = refl;
+  csrrw = refl;
+  mret = refl;
+  ld = refl;
+  slli_32 = refl;
+  no_branch = refl;
+  amoadd_d = refl;
+  ecall_rd = refl;
+}
+
+pub executes_instructions : ExecutesInstructions
 unfolding instr_of instruction instructions instruction_touches phase phase_touches phases phases_touches post fill write_back action_of after_action start_of slot_done machine_at records touches_of rows_of listing_of shape_line core_line regs_line held_line memory_line row_line open_row_line waits_line digits
-reads_words = record { add = refl; addi = refl; lw = refl; sw = refl; ecall = refl; zero_word = refl; one_word = refl }
+executes_instructions = record {
+  swap = refl;
+  swapped = refl;
+  jump = refl;
+  branch = refl;
+  misaligned = refl;
+  range = refl;
+  jalr = refl;
+  sltiu = refl;
+  srai = refl;
+  lb = refl;
+  lhu = refl;
+  amomin = refl;
+  amominu = refl;
+}
 
 pub largest_bound : LargestBound
 unfolding instr_of instruction instructions instruction_touches phase phase_touches phases phases_touches post fill write_back action_of after_action start_of slot_done machine_at records touches_of rows_of listing_of shape_line core_line regs_line held_line memory_line row_line open_row_line waits_line digits

@@ -55,7 +55,7 @@ amo_word Amomax old operand = if is_below_signed old operand then operand else o
 amo_word Amominu old operand = if nat_lt old operand then old else operand
 amo_word Amomaxu old operand = if nat_lt old operand then operand else old
 
--- the value given to rd; a store gives none, and names x0
+-- the value given to rd; a store gives none: its rd is x0, and its value 0
 abbrev pub access_value : AccessOp → List ℕ → ℕ
 access_value (Load op) bytes = load_value op bytes
 access_value (Store op) bytes = 0

@@ -22,9 +22,9 @@ pub data Effect : Type 0 where
   Memory : Access → Effect
   Stop : Halt → Effect
 
--- registers are a list of 32 words
+-- registers are a list of 32 words; x0 reads 0
 abbrev pub reg_of : List ℕ → ℕ → ℕ
-reg_of regs r = slice_index regs r
+reg_of regs r = if r == 0 then 0 else slice_index regs r
 
 -- a write to x0 is lost
 abbrev pub with_reg : List ℕ → ℕ → ℕ → List ℕ
@@ -40,7 +40,7 @@ next_pc pc = wrapped (pc + 4)
 abbrev pub one_if : Bool → ℕ
 one_if b = if b then 1 else 0
 
--- a word shifted to the right, by so many places, with copies of its sign
+-- a word shifted to the right, by so many places, with copies of its sign bit: of a negative one the complement is shifted
 abbrev pub shifted_signed : ℕ → ℕ → ℕ
 shifted_signed word places = if nat_lt word (2 ^ 31) then word / 2 ^ places else (2 ^ 32 - 1) - (2 ^ 32 - 1 - word) / 2 ^ places
 
@@ -78,7 +78,7 @@ is_taken Bge a b = not (is_below_signed a b)
 is_taken Bltu a b = nat_lt a b
 is_taken Bgeu a b = not (nat_lt a b)
 
--- a jump, with the pc behind it in rd; to an address that isn't a multiple of four it halts, and rd isn't written
+-- a jump, with pc + 4 in rd; to an address that isn't a multiple of four it halts, and rd isn't written
 abbrev pub jump : List ℕ → ℕ → ℕ → ℕ → Effect
 jump regs rd pc target = if target % 4 == 0 then Next (with_reg regs rd (next_pc pc)) target else Stop (JumpMisaligned target)
 
@@ -92,7 +92,10 @@ asks memory access =
 abbrev pub access : AccessOp → ℕ → ℕ → ℕ → Access
 access op rd address operand = record { op = op; rd = rd; address = address; operand = operand }
 
--- the effect of an instruction, from the registers, the pc and the memory size
+-- the effect of an instruction, from the registers, the pc and the memory size: computations (section 2.4), jumps and
+-- branches (2.5), loads and stores (2.6), fences, which change nothing here (2.7), environment calls and breakpoints (2.8),
+-- AMOs, whose operand is rs2's value before rd is written (8.4). The target of JALR has its bit 0 cleared; SLTIU compares
+-- with the sign-extended immediate as an unsigned number
 abbrev pub effect_of : Instr → List ℕ → ℕ → ℕ → Effect
 effect_of (Lui rd imm) regs pc memory = Next (with_reg regs rd (4096 * imm)) (next_pc pc)
 effect_of (Auipc rd imm) regs pc memory = Next (with_reg regs rd (wrapped (pc + 4096 * imm))) (next_pc pc)

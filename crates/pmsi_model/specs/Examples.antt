@@ -1,14 +1,8 @@
 -- Worked examples: small jobs, and what the definitions say of their runs. The instructions are given as words.
-use Rattle.std.specs.Prelude.{negsuc, ◌++◌, codes, ◌≡◌, ℕ, ◌+◌, List, [], ◌∷◌, replicate, map, true, false, ◌==◌, if◌then◌else◌, Option, Some, None}
+use Rattle.std.specs.Prelude.{pos, negsuc, slice_set, ◌++◌, codes, ◌≡◌, ℕ, ◌+◌, List, [], ◌∷◌, replicate, map, true, false, ◌==◌, if◌then◌else◌, Option, Some, None}
 use Rattle.pmsi_model.specs.declared.job.Geometry.{Geometry}
 use Rattle.pmsi_model.specs.declared.Action.TheVariants.{Idle, Post, Fill, PostFill, Back}
-use Rattle.pmsi_model.specs.declared.Halt.TheVariants.{Exit}
-use Rattle.pmsi_model.specs.declared.instr.Instr.TheVariants.{Op, OpImm, Load, Store, Ecall}
-use Rattle.pmsi_model.specs.declared.instr.ImmOp.TheVariants.{Addi}
-use Rattle.pmsi_model.specs.declared.instr.LoadOp.TheVariants.{Lw}
-use Rattle.pmsi_model.specs.declared.instr.RegOp.TheVariants.{Add}
-use Rattle.pmsi_model.specs.declared.instr.StoreOp.TheVariants.{Sw}
-use Rattle.pmsi_model.specs.Instruction.{instr_of}
+use Rattle.pmsi_model.specs.declared.Halt.TheVariants.{Exit, JumpMisaligned, Misaligned, Range}
 use Rattle.pmsi_model.specs.declared.Kind.{Kind}
 use Rattle.pmsi_model.specs.declared.Kind.TheVariants.{Read, Write}
 use Rattle.pmsi_model.specs.declared.Mode.{Mode}
@@ -18,6 +12,13 @@ use Rattle.pmsi_model.specs.declared.Row.{Row}
 use Rattle.pmsi_model.specs.declared.Status.{Status}
 use Rattle.pmsi_model.specs.declared.Status.TheVariants.{Running, Halted}
 use Rattle.pmsi_model.specs.declared.Touch.{Touch}
+use Rattle.pmsi_model.specs.declared.AccessOp.TheVariants.{Load, Amo}
+use Rattle.pmsi_model.specs.declared.instr.Instr.TheVariants.{Jalr, OpImm}
+use Rattle.pmsi_model.specs.declared.instr.ImmOp.TheVariants.{Sltiu, Srai}
+use Rattle.pmsi_model.specs.declared.instr.LoadOp.TheVariants.{Lb, Lhu}
+use Rattle.pmsi_model.specs.declared.instr.AmoOp.TheVariants.{Amomin, Amominu}
+use Rattle.pmsi_model.specs.Access.{access_value, access_bytes}
+use Rattle.pmsi_model.specs.Effect.{effect_of, Next}
 use Rattle.pmsi_model.specs.Job.{JobValue}
 use Rattle.pmsi_model.specs.Slots.{plan_of, bound_of}
 use Rattle.pmsi_model.specs.Machine.{CoreState}
@@ -305,16 +306,51 @@ pub record LeastRecentlyUsed : Type 0 where
   pub line_1_gone : ((machine_at least_recently_used 4).cores 0).held ≡ (2, Shared) ∷ (0, Shared) ∷ []
   pub waits : map wait_of (rows_of least_recently_used 5) ≡ 1 ∷ 1 ∷ 1 ∷ []
 
--- ---- words and their instructions
+-- ---- instructions beyond those of the other examples
 
-pub record ReadsWords : Type 0 where
-  pub add : instr_of 0x006283b3 ≡ Some (Op Add 7 5 6)
-  pub addi : instr_of 0xfff28293 ≡ Some (OpImm Addi 5 5 (negsuc 0))
-  pub lw : instr_of 0xffc32283 ≡ Some (Load Lw 5 6 (negsuc 3))
-  pub sw : instr_of 0xfe532e23 ≡ Some (Store Sw 6 5 (negsuc 3))
-  pub ecall : instr_of 0x00000073 ≡ Some Ecall
-  pub zero_word : instr_of 0x00000000 ≡ None
-  pub one_word : instr_of 0xffffffff ≡ None
+-- addi x5, x0, 9; amoswap.w.aqrl x5, x5, (x0); ecall: x5 gets the old word, and memory the 9
+abbrev pub swaps : JobValue
+swaps = job_of (small 1 1 3) ((0x00900293 ∷ 0x0e5022af ∷ ecall ∷ []) ∷ [])
+
+-- jal x1, .+6
+abbrev pub jumps_off : JobValue
+jumps_off = job_of (small 1 1 1) ((0x006000ef ∷ []) ∷ [])
+
+-- beq x0, x11, .+6, which isn't taken; ecall
+abbrev pub passes_by : JobValue
+passes_by = job_of (small 1 1 2) ((0x00b00363 ∷ ecall ∷ []) ∷ [])
+
+-- lw x5, 2(x0)
+abbrev pub loads_askew : JobValue
+loads_askew = job_of (small 1 1 1) ((0x00202283 ∷ []) ∷ [])
+
+-- lw x5, 64(x0)
+abbrev pub loads_beyond : JobValue
+loads_beyond = job_of (small 1 1 1) ((0x04002283 ∷ []) ∷ [])
+
+-- registers that are 0 but for x5
+abbrev pub with_x5 : ℕ → List ℕ
+with_x5 value = slice_set (replicate 32 0) 5 value
+
+abbrev pub with_x5_x6 : ℕ → ℕ → List ℕ
+with_x5_x6 value other = slice_set (with_x5 value) 6 other
+
+pub record ExecutesInstructions : Type 0 where
+  pub swap : core_at_end swaps 0 ≡ core_end 8 2 (exited 0) ((11, 1) ∷ []) ((0, Modified) ∷ [])
+  pub swapped : memory_at_end swaps ≡ (0, 9) ∷ []
+  pub jump : core_at_end jumps_off 0 ≡ core_end 0 0 (Halted (JumpMisaligned 6)) ((11, 1) ∷ []) []
+  pub branch : core_at_end passes_by 0 ≡ core_end 4 1 (exited 0) ((11, 1) ∷ []) []
+  pub misaligned : core_at_end loads_askew 0 ≡ core_end 0 0 (Halted (Misaligned 2)) ((11, 1) ∷ []) []
+  pub range : core_at_end loads_beyond 0 ≡ core_end 0 0 (Halted (Range 64)) ((11, 1) ∷ []) []
+  -- the target's bit 0 is cleared, and taken before rd is written
+  pub jalr : effect_of (Jalr 5 5 (pos 0)) (with_x5 0x105) 0 64 ≡ Next (with_x5 4) 0x104
+  -- the immediate is sign-extended, and compared as unsigned
+  pub sltiu : effect_of (OpImm Sltiu 6 5 (negsuc 0)) (with_x5 5) 0 64 ≡ Next (with_x5_x6 5 1) 4
+  pub srai : effect_of (OpImm Srai 6 5 (pos 31)) (with_x5 0x80000000) 0 64 ≡ Next (with_x5_x6 0x80000000 0xffffffff) 4
+  pub lb : access_value (Load Lb) (0x80 ∷ []) ≡ 0xffffff80
+  pub lhu : access_value (Load Lhu) (0x34 ∷ 0x92 ∷ []) ≡ 0x9234
+  pub amomin : access_bytes (Amo Amomin) 1 (0xff ∷ 0xff ∷ 0xff ∷ 0xff ∷ []) ≡ 0xff ∷ 0xff ∷ 0xff ∷ 0xff ∷ []
+  pub amominu : access_bytes (Amo Amominu) 1 (0xff ∷ 0xff ∷ 0xff ∷ 0xff ∷ []) ≡ 1 ∷ 0 ∷ 0 ∷ 0 ∷ []
 
 -- ---- the bound of the largest machine
 

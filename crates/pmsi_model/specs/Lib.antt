@@ -15,5 +15,6 @@ pub mod Coherent
 pub mod Waiting
 pub mod Latest
 pub mod Examples
+pub mod ExampleWords
 pub mod Lines
 pub mod Listing

@@ -1,7 +1,8 @@
 //! Worked examples: each function has an empty body, and its contract says what the definitions give for a small job.
 //! The jobs and the values stand in `specs/Examples.antt`; the checker computes them.
 
-ghost use Rattle.pmsi_model.specs.Examples.{AddsAndExits, TakesNoSlot, StoresAndLoads, TwoWriters, OpenAtTheEnd, ReaderBehindAnOwner, ReadBeforeWrite, SharedHoldersStore, ModifiedVictim, VictimAlreadyDemanded, LeastRecentlyUsed, ReadsWords, LargestBound};
+ghost use Rattle.pmsi_model.specs.Examples.{AddsAndExits, TakesNoSlot, StoresAndLoads, TwoWriters, OpenAtTheEnd, ReaderBehindAnOwner, ReadBeforeWrite, SharedHoldersStore, ModifiedVictim, VictimAlreadyDemanded, LeastRecentlyUsed, ExecutesInstructions, LargestBound};
+ghost use Rattle.pmsi_model.specs.ExampleWords.{ReadsWords};
 
 /// One core adds, and exits by an environment call.
 pub fn adds_and_exits()
@@ -56,6 +57,11 @@ pub fn victim_already_demanded()
 /// The victim is the least recently used line of the set.
 pub fn least_recently_used()
     ensures { LeastRecentlyUsed }
+{}
+
+/// An AMO, jumps, addresses that halt, and effects and accesses at their edges.
+pub fn executes_instructions()
+    ensures { ExecutesInstructions }
 {}
 
 /// Words of the instruction table, and words that have no row.

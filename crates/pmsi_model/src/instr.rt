@@ -103,9 +103,9 @@ pub enum AmoOp {
     Amomaxu,
 }
 
-/// An instruction. Offsets and immediates are the signed numbers that the word spells, in bytes; `imm` of Lui and Auipc
-/// is the twenty bits, from 0 to 1,048,575, and that of Slli, Srli and Srai the shift amount, from 0 to 31; a Fence keeps
-/// its word.
+/// An instruction. Immediates and offsets are the signed numbers that the word spells, offsets in bytes; `imm` of Lui and
+/// Auipc is the twenty bits, from 0 to 1,048,575, and that of Slli, Srli and Srai the shift amount, from 0 to 31; a Fence
+/// keeps its word.
 #[derive(Clone, Copy, Debug, PartialEq, Eq)]
 pub enum Instr {
     Lui {

@@ -1,11 +1,12 @@
 //! Laws of the definitions: each function has an empty body, and its contract is the law.
 
-ghost use Rattle.pmsi_model.specs.Instruction.{ReadsOneWay};
+ghost use Rattle.pmsi_model.specs.Instruction.{HasOneRow, ReadsOneWay};
 ghost use Rattle.pmsi_model.specs.Machine.{PlaceIsRead, QueueIsRead};
 
-/// A word encodes an instruction exactly where the first row that fits reads it so.
+/// A word has one row at most, and encodes an instruction exactly where the first row that fits reads it so.
 pub fn instruction_table()
-    ensures { ReadsOneWay }
+    ensures one_row { HasOneRow }
+    ensures one_way { ReadsOneWay }
 {}
 
 /// The readers of the posted requests are those of a line's queue.

@@ -3,7 +3,7 @@ use Rattle.std.proofs.Common.{◌≡◌, ◌≢◌, ◌⊎◌, inl, inr, ℕ, �
 use Rattle.std.proofs.lemmas.List.{length-replicate}
 use Rattle.std.specs.Prelude.{Option, None, Some, IsSomeAnd, Result, Ok, Err, IfOk, IfErr}
 use Rattle.std.specs.Io.KnownBytes.{Appends}
-use Rattle.pmsi_model.specs.Job.{JobValue, IsJob, text_of}
+use Rattle.pmsi_model.specs.Job.{JobValue, IsJob}
 use Rattle.pmsi_outside.specs.Causes.{Rose}
 use Rattle.pmsi_outside.specs.Files.{Contents, Tells}
 use Rattle.pmsi_outside.specs.Sink.{AppendsPart}
@@ -14,14 +14,12 @@ use Rattle.pmsi_tool.specs.declared.complaint.Refusal.{Refusal}
 use Rattle.pmsi_tool.specs.declared.complaint.Complaint.{Complaint}
 use Rattle.pmsi_tool.specs.declared.complaint.Complaint.TheVariants.{Usage, ReadFault, Refused, NoMemory}
 use Rattle.pmsi_tool.specs.Words.{IsRunOf}
-use Rattle.pmsi_tool.specs.declared.complaint.Refusal.TheVariants.{Large, NotBuilt, Word}
+use Rattle.pmsi_tool.specs.declared.complaint.Refusal.TheVariants.{Large, NotBuilt}
 use Rattle.pmsi_tool.specs.declared.ToolStatus.{ToolStatus}
 use Rattle.pmsi_tool.specs.declared.ToolStatus.TheVariants.{Done as DoneStatus, Usage as UsageStatus, ReadFault as ReadFaultStatus, WriteFault as WriteFaultStatus, Refused as RefusedStatus, NoMemory as NoMemoryStatus}
 use Rattle.pmsi_tool.specs.Lines.{line_of}
-use Rattle.job_text.specs.JobText.{IsTextOf}
-use Rattle.job_text.proofs.JobTexts.{one_job}
 use Rattle.pmsi_model.specs.declared.limits.TheConstants.{MAX_FILE_BYTES}
-use Rattle.pmsi_tool.specs.Results.{first_without_row, Holds, Reads, IsFaithful, IsListed, IsRefused, Lists, Refuses, RefusesAt}
+use Rattle.pmsi_tool.specs.Results.{Holds, Reads, IsFaithful, IsListed, IsRefused, Lists, Refuses, RefusesAt}
 use Rattle.pmsi_tool.specs.Statuses.{ErrFails, IsTold, Stands, StandsAt, status_of}
 
 pub faithful : (job : JobValue) → IsJob job → IsFaithful job
@@ -86,16 +84,10 @@ same_held : (contents : Option Contents) (name held other : List ℕ) → Holds 
 same_held None name held other holds reads = absurd holds
 same_held (Some contents) name held other holds reads = same_told (contents name) held other holds reads
 
-no_word : (words : List ℕ) (word : ℕ) → first_without_row words ≡ None → first_without_row words ≡ Some word → ⊥
-no_word words word none some = grind arith
-
 -- bytes that are accepted aren't refused
 not_both : (held text : List ℕ) (refusal : Refusal) → IsListed held text → IsRefused held refusal → ⊥
 not_both held text Large listed refused = let within = listed.1.within in omega arith
 not_both held text NotBuilt listed refused = refused.1 listed.0 listed.1.job_text
-not_both held text (Word word) listed refused =
-    let same : refused.1 ≡ listed.0 = one_job refused.1 listed.0 held refused.2 listed.1.job_text in
-    no_word (text_of listed.0 0) word listed.1.rows (rw same at refused.3)
 
 -- where contents are told, an accepted file isn't refused
 accepted : (words : List (List ℕ)) (contents : Option Contents) (name held text : List ℕ) (refusal : Refusal) → IsRunOf words name → Holds contents name held → IsListed held text

@@ -1,8 +1,7 @@
 -- The lines that are told on `err`.
 use Rattle.std.specs.Prelude.{ℕ, List, ◌++◌, codes}
-use Rattle.pmsi_model.specs.Lines.{hex_word}
 use Rattle.pmsi_tool.specs.declared.complaint.Refusal.{Refusal}
-use Rattle.pmsi_tool.specs.declared.complaint.Refusal.TheVariants.{Large, NotBuilt, Word}
+use Rattle.pmsi_tool.specs.declared.complaint.Refusal.TheVariants.{Large, NotBuilt}
 use Rattle.pmsi_tool.specs.declared.complaint.Complaint.{Complaint}
 use Rattle.pmsi_tool.specs.declared.complaint.Complaint.TheVariants.{Usage, ReadFault, Refused, NoMemory}
 
@@ -21,7 +20,6 @@ no_memory_line = codes "no memory\n"
 abbrev pub detail_of : Refusal → List ℕ
 detail_of Large = codes "large"
 detail_of NotBuilt = codes "not built"
-detail_of (Word word) = codes "word " ++ hex_word word
 
 abbrev pub refused_line : Refusal → List ℕ
 refused_line refusal = codes "refused: input: " ++ detail_of refusal ++ codes "\n"

@@ -1,9 +1,7 @@
 -- What the file that the words of a call name gives: a listing, or a refusal.
-use Rattle.std.specs.Prelude.{◌≡◌, ℕ, ◌<◌, ◌≤◌, ⊤, List, length, Option, None, Some, is_some, not, IsSomeAnd}
-use Rattle.std.specs.List.{find}
+use Rattle.std.specs.Prelude.{◌≡◌, ℕ, ◌<◌, ◌≤◌, ⊤, List, length, Option, Some, IsSomeAnd}
 use Rattle.pmsi_model.specs.declared.limits.TheConstants.{MAX_FILE_BYTES}
-use Rattle.pmsi_model.specs.Job.{JobValue, text_of}
-use Rattle.pmsi_model.specs.Instruction.{instr_of}
+use Rattle.pmsi_model.specs.Job.{JobValue}
 use Rattle.pmsi_model.specs.Run.{machine_at}
 use Rattle.pmsi_model.specs.Listing.{listing_of}
 use Rattle.pmsi_model.specs.Coherent.{IsCoherent}
@@ -12,32 +10,25 @@ use Rattle.pmsi_model.specs.Waiting.{WaitsAreBounded}
 use Rattle.pmsi_outside.specs.Files.{Contents, Tells}
 use Rattle.job_text.specs.JobText.{IsTextOf}
 use Rattle.pmsi_tool.specs.declared.complaint.Refusal.{Refusal}
-use Rattle.pmsi_tool.specs.declared.complaint.Refusal.TheVariants.{Large, NotBuilt, Word}
+use Rattle.pmsi_tool.specs.declared.complaint.Refusal.TheVariants.{Large, NotBuilt}
 use Rattle.pmsi_tool.specs.declared.complaint.Complaint.{Complaint}
 use Rattle.pmsi_tool.specs.declared.complaint.Complaint.TheVariants.{Usage, ReadFault, Refused, NoMemory}
 use Rattle.pmsi_tool.specs.Words.{IsRunOf}
-
--- the first word that has no row in the instruction table
-abbrev pub first_without_row : List ℕ → Option ℕ
-first_without_row words = find (λ word. not (is_some (instr_of word))) words
 
 -- the bytes are the text of this job, which is accepted, and the text is its listing
 pub record IsListingOf (job : JobValue) (held text : List ℕ) : Type 0 where
   pub within : length held ≤ MAX_FILE_BYTES
   pub job_text : IsTextOf job held
-  pub rows : first_without_row (text_of job 0) ≡ None
   pub listing : text ≡ listing_of job
 
 -- the bytes are accepted, and the text is the listing that they give
 abbrev pub IsListed : List ℕ → List ℕ → Type 0
 IsListed held text = (job : JobValue) × IsListingOf job held text
 
--- why the bytes are refused: the first of these causes
+-- why the bytes are refused
 abbrev pub IsRefused : List ℕ → Refusal → Type 0
 IsRefused held Large = MAX_FILE_BYTES < length held
 IsRefused held NotBuilt = (length held ≤ MAX_FILE_BYTES) × ((job : JobValue) → IsTextOf job held → ⊥)
-IsRefused held (Word word) =
-    (length held ≤ MAX_FILE_BYTES) × (job : JobValue) × IsTextOf job held × (first_without_row (text_of job 0) ≡ Some word)
 
 -- what holds of the written machine of a job, up to its slots: it is coherent at every slot boundary, every read takes the
 -- latest write in bus order, and what is left for a request and its age are within the bound together

@@ -6,7 +6,6 @@ ghost use Rattle.pmsi_tool.specs.Statuses.{Stands, StandsAt};
 ghost use Rattle.pmsi_model.specs.Listing.{listing_of};
 
 use crate::complaint::{Complaint, Refusal};
-use crate::rows::first_without_row;
 use crate::words::run_name;
 use job_text::{JobFault, read_job};
 use listing::listing;
@@ -62,9 +61,6 @@ fn run_text(alloc: Global, bytes: &[u8]) -> Result<Vec<u8>, Complaint>
         Err(JobFault::NotBuilt) => return Err(Complaint::Refused(Refusal::NotBuilt)),
         Err(JobFault::NoMemory) => return Err(Complaint::NoMemory),
     };
-    if let Some(word) = first_without_row(job.text(0).as_slice()) {
-        return Err(Complaint::Refused(Refusal::Word(word)));
-    }
     match run_job(alloc, &job) {
         Ok(text) => Ok(text),
         Err(NoMemory) => Err(Complaint::NoMemory),

@@ -10,8 +10,6 @@ pub enum Refusal {
     Large,
     /// It is no text of a job, in the form that is read so far.
     NotBuilt,
-    /// This word of the job's text has no row in the instruction table; it is the first such word.
-    Word(u32),
 }
 
 /// An answer that is told on `err` by its line.

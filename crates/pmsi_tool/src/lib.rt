@@ -13,7 +13,6 @@ ghost use Rattle.pmsi_tool.specs.Lines.{usage_line, read_fault_line, refused_lin
 
 mod answer;
 mod complaint;
-mod rows;
 mod tell;
 mod words;
 

@@ -8,7 +8,7 @@ ghost use Rattle.pmsi_tool.specs.Statuses.{IsTold, LeavesFront, Tells};
 
 use crate::ToolStatus;
 use crate::complaint::{Complaint, Refusal};
-use listing::{push_hex_field, push_text};
+use listing::push_text;
 use pmsi_outside::{Sink, write_whole};
 use std::alloc::{AllocError, Global};
 
@@ -73,7 +73,6 @@ fn push_detail(line: &mut Vec<u8>, refusal: Refusal) -> Result<(), AllocError>
     match refusal {
         Refusal::Large => push_text(line, "large"),
         Refusal::NotBuilt => push_text(line, "not built"),
-        Refusal::Word(word) => push_hex_field(line, "word ", word),
     }
 }
 

@@ -56,6 +56,19 @@ bound 8
 end
 ";
 
+/// The register gets the old word, 0, and memory the 9 that stood in it.
+const SWAPPED: &str = "pmsi listing 1
+cores 1 quantum 1 line 4 sets 1 ways 1 memory 64 slots 3
+core 0 pc 0x00000008 retired 2 exit 0
+regs x11=0x00000001
+held 0:M
+mem 0x00000000 09000000000000000000000000000000
+row core 0 line 0 write issue 1 post 1 fill 1 wait 1
+waits 0 count 1 greatest 1 sum 1
+bound 8
+end
+";
+
 fn words(alloc: Global, texts: &[&str]) -> Result<Vec<String>, AllocError> {
     let mut words = Vec::new(alloc);
     for text in texts {
@@ -157,13 +170,144 @@ fn runs_a_job(rt: HostRuntime) -> Result<(), Fail> {
     Ok(())
 }
 
+/// The heads of a job with so many slots.
+fn heads(alloc: Global, slots: &str) -> Result<String, AllocError> {
+    let mut text = String::from_str(
+        alloc,
+        "pmsi 1\ncores 1\nquantum 1\nline 4\nsets 1\nways 1\nmemory 64\nslots ",
+    )?;
+    text.push_str(slots)?;
+    text.push_str("\n")?;
+    Ok(text)
+}
+
+/// Whether this program, within so many slots and without a request, ends with this pc, these instructions retired and
+/// this status.
+fn ends(alloc: Global, slots: &str, line: &str, end: &str) -> Result<bool, AllocError> {
+    let mut text = String::from_str(
+        alloc,
+        "pmsi listing 1\ncores 1 quantum 1 line 4 sets 1 ways 1 memory 64 slots ",
+    )?;
+    text.push_str(slots)?;
+    text.push_str("\ncore 0 pc 0x")?;
+    text.push_str(end)?;
+    text.push_str("\nregs x11=0x00000001\nheld\nwaits 0 count 0 greatest 0 sum 0\nbound 8\nend\n")?;
+    let heads = heads(alloc, slots)?;
+    lists(alloc, heads.as_str(), line, text.as_str())
+}
+
+/// A jump to no multiple of four halts and writes no register; a branch that isn't taken may have such a target.
 #[test]
-fn refuses_the_first_word_without_a_row(rt: HostRuntime) -> Result<(), Fail> {
+fn jumps_to_multiples_of_four(rt: HostRuntime) -> Result<(), Fail> {
     let alloc = rt.alloc();
-    let bytes = job(alloc, HEADS, "core 0 hex 00100073\n")?;
-    assert!(rt; refuses(alloc, bytes, "refused: input: word 0x00100073\n")?);
-    let bytes = job(alloc, HEADS, "core 0 hex 00700293 0000000f 00100073\n")?;
-    assert!(rt; refuses(alloc, bytes, "refused: input: word 0x0000000f\n")?);
+    assert!(rt;
+        ends(
+            alloc,
+            "1",
+            "core 0 hex 006000ef\n",
+            "00000000 retired 0 jump 0x00000006"
+        )?
+    );
+    assert!(rt;
+        ends(
+            alloc,
+            "2",
+            "core 0 hex 00b00363 00000073\n",
+            "00000004 retired 1 exit 0"
+        )?
+    );
+    Ok(())
+}
+
+#[test]
+fn halts_where_no_instruction_stands(rt: HostRuntime) -> Result<(), Fail> {
+    let alloc = rt.alloc();
+    assert!(rt;
+        ends(
+            alloc,
+            "1",
+            "core 0 hex 00000000\n",
+            "00000000 retired 0 illegal 0x00000000"
+        )?
+    );
+    assert!(rt;
+        ends(
+            alloc,
+            "1",
+            "core 0 hex ffffffff\n",
+            "00000000 retired 0 illegal 0xffffffff"
+        )?
+    );
+    assert!(rt;
+        ends(
+            alloc,
+            "1",
+            "core 0 hex 0000100f\n",
+            "00000000 retired 0 illegal 0x0000100f"
+        )?
+    );
+    assert!(rt;
+        ends(
+            alloc,
+            "1",
+            "core 0 hex 0ff0000f\n",
+            "00000004 retired 1 running"
+        )?
+    );
+    assert!(rt;
+        ends(
+            alloc,
+            "1",
+            "core 0 hex\n",
+            "00000000 retired 0 fetch 0x00000000"
+        )?
+    );
+    Ok(())
+}
+
+#[test]
+fn halts_at_wrong_addresses_and_breakpoints(rt: HostRuntime) -> Result<(), Fail> {
+    let alloc = rt.alloc();
+    assert!(rt;
+        ends(
+            alloc,
+            "1",
+            "core 0 hex 00202283\n",
+            "00000000 retired 0 misaligned 0x00000002"
+        )?
+    );
+    assert!(rt;
+        ends(
+            alloc,
+            "1",
+            "core 0 hex 04002283\n",
+            "00000000 retired 0 range 0x00000040"
+        )?
+    );
+    assert!(rt;
+        ends(
+            alloc,
+            "1",
+            "core 0 hex 00100073\n",
+            "00000000 retired 0 break"
+        )?
+    );
+    Ok(())
+}
+
+/// An AMO whose destination is its operand, with both ordering bits.
+#[test]
+fn swaps_a_register_with_memory(rt: HostRuntime) -> Result<(), Fail> {
+    let alloc = rt.alloc();
+    let heads = heads(alloc, "3")?;
+    assert!(rt;
+        lists(
+            alloc,
+            heads.as_str(),
+            "core 0 hex 00900293 0e5022af 00000073\n",
+            SWAPPED
+        )?
+    );
     Ok(())
 }
 

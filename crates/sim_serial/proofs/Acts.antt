@@ -10,24 +10,22 @@ use Rattle.pmsi_model.specs.declared.Mode.{Mode}
 use Rattle.pmsi_model.specs.declared.Mode.TheVariants.{Modified}
 use Rattle.pmsi_model.specs.declared.Turn.TheVariants.{Request as RequestTurn, WriteBack as WriteBackTurn}
 use Rattle.pmsi_model.specs.declared.Want.{Want}
-use Rattle.pmsi_model.specs.Words.{bytes_of}
 use Rattle.pmsi_model.specs.Access.{kind_of}
-use Rattle.pmsi_model.proofs.Bytes.{length-with_bytes}
 use Rattle.pmsi_model.proofs.Held.{mode_without, mode_to_front}
 use Rattle.pmsi_model.specs.Geometry.{line_of}
 use Rattle.pmsi_model.specs.Job.{JobValue}
 use Rattle.pmsi_model.specs.Machine.{Machine, CoreState, Request, mode_of, without, to_front, removed, has_write, has_request, mode_in, nobody_owns, first_of}
-use Rattle.pmsi_model.specs.Phase.{Context, context_of, met_bytes, memory_after, retired_with}
+use Rattle.pmsi_model.specs.Phase.{Context, context_of, met_bytes, memory_after, permits, retired_with}
 use Rattle.pmsi_model.specs.Bus.{post, fill, fill_for, post_at, filled_line, append_demanded, can_request_for, requests_now, can_write_back, is_request_turn, request_action, post_action, back_action, action_of, is_served, clear_victim, name_of, is_core, has_victim_for}
 use Rattle.cache_array.specs.declared.line.CachedLine.{CachedLine}
 use Rattle.cache_array.specs.Cache.{held_of, words_of, word_place, others, with_word, put_first}
 use Rattle.cache_array.proofs.Lines.{held_of-others, held_of-put_first, words_of-others, words_of-put_first}
+use Rattle.rv_exec.specs.Effects.{IsAccessTo}
 use Rattle.sim_serial.specs.declared.state.State.{State}
 use Rattle.sim_serial.specs.State.{core_of, with_lines, performed, served, back_to, due, mode_for}
-use Rattle.sim_serial.specs.Fetched.{IsWordAccess}
-use Rattle.sim_serial.specs.Stands.{with_memory, IsWordWant, CopiesAgree, Carries, StandsFor}
+use Rattle.sim_serial.specs.Stands.{with_memory, IsWantOf, CopiesAgree, Carries, StandsFor}
 use Rattle.sim_serial.proofs.Agreement.{agrees_fetched, agrees_back, back_length}
-use Rattle.sim_serial.proofs.Steps.{rebuilt, words_some, load, store, load_core, store_core, load_memory, store_agree, access_cases}
+use Rattle.sim_serial.proofs.Steps.{rebuilt, words_some, performs}
 
 if_some : (b : Bool) (want : Want) → (if b then Some want else None) ≡ Some want → b ≡ true
 if_some true want is = refl
@@ -100,11 +98,16 @@ fetched_state job want v = with_lines (fetched_lines job want v) v
 
 fetched_carries : (job : JobValue) (memory : List ℕ) (want : Want) (v : State) → Carries job memory v → mode_of want.line (held_of v.cache.lines) ≢ Some Modified → (want.line + 1) * job.shape.line_words ≤ length v.memory →
     Carries job memory (fetched_state job want v)
-fetched_carries job memory want v s unowned within = rebuilt job memory memory v (fetched_state job want v) s refl refl refl refl refl (fetched_agree job memory want v s unowned within) s.want
+fetched_carries job memory want v s unowned within = rebuilt job memory memory v (fetched_state job want v) s refl refl refl refl s.below refl (fetched_agree job memory want v s unowned within) s.want
 
 -- the wanted line is held after the fetch, in the mode of its kind
 fetched_here : (job : JobValue) (want : Want) (v : State) → mode_of want.line (held_of (fetched_lines job want v)) ≡ Some (mode_for want.kind)
 fetched_here job want v = grind (arith, fetched_mode job want v want.line)
+
+-- the mode of a kind permits it
+served_grants : (kind : Kind) → permits kind (Some (mode_for kind)) ≡ true
+served_grants Read = refl
+served_grants Write = refl
 
 filled_front : (kind : Kind) (line : ℕ) (held : List (ℕ × Mode)) → to_front line (mode_for kind) held ≡ filled_line kind false line held
 filled_front Read line held = refl
@@ -127,38 +130,17 @@ served_same job want v shape = ap (λ (g : Geometry).
     let u : State = with_lines (put_first want.line (mode_for want.kind) (take g.line_words (drop (want.line * g.line_words) v.memory)) v.cache.lines) v in
     let w : State = record (performed want.access u) { want = None; turn = WriteBackTurn; rows = record v.rows { rows = v.rows.rows ++ record { core = 0; line = want.line; kind = want.kind; issue = want.issue; post = v.slot; fill = v.slot } ∷ [] } } in w) shape
 
--- the access of a want that is served, on the state that has its line
-done_load : (job : JobValue) (memory : List ℕ) (want : Want) (v : State) (rd a o : ℕ) → want.access ≡ load rd a o → want.line ≡ line_of job.shape a → Carries job memory (fetched_state job want v) → IsWordAccess job.shape.memory (load rd a o) →
-    StandsFor job (record { core = retired_with (load rd a o) (met_bytes (load rd a o) memory) (core_of (fetched_state job want v)); memory = memory_after (load rd a o) memory }) (performed (load rd a o) (fetched_state job want v))
-done_load job memory want v rd a o access line s is = let u : State = fetched_state job want v in let same = load_memory job memory u rd a o s is in
-    let held : mode_of (line_of job.shape a) (held_of u.cache.lines) ≢ None = λ none. absurd (let here = fetched_here job want v in let there : mode_of want.line (held_of u.cache.lines) ≡ None = ap (λ l. mode_of l (held_of u.cache.lines)) line ∙ none in cc) in record {
-      carries = rebuilt job memory (memory_after (load rd a o) memory) u (performed (load rd a o) u) s refl refl refl (ap length same) refl
-          (subst (λ m. CopiesAgree job m u.cache.lines u.memory) (sym same) s.agree) s.want;
-      core = load_core job memory u rd a o s is.aligned held;
-    }
-
-done_store : (job : JobValue) (memory : List ℕ) (want : Want) (v : State) (a o : ℕ) → want.access ≡ store a o → want.line ≡ line_of job.shape a → want.kind ≡ Write → Carries job memory (fetched_state job want v) → IsWordAccess job.shape.memory (store a o) →
-    StandsFor job (record { core = retired_with (store a o) (met_bytes (store a o) memory) (core_of (fetched_state job want v)); memory = memory_after (store a o) memory }) (performed (store a o) (fetched_state job want v))
-done_store job memory want v a o access line kind s is = let u : State = fetched_state job want v in
-    let owned : mode_of (line_of job.shape a) (held_of u.cache.lines) ≡ Some Modified = ap (λ l. mode_of l (held_of u.cache.lines)) (sym line) ∙ fetched_here job want v ∙ ap (λ (k : Kind). Some (mode_for k)) kind in record {
-      carries = rebuilt job memory (memory_after (store a o) memory) u (performed (store a o) u) s refl refl refl (length-with_bytes a (bytes_of 4 o) memory) refl
-          (subst (λ (g : Geometry). CopiesAgree job (memory_after (store a o) memory) (with_word (line_of g a) (word_place g a) o u.cache.lines) u.memory) (sym s.cache) (store_agree job memory u a o s is owned)) s.want;
-      core = store_core memory u a o;
-    }
-
-done : (job : JobValue) (memory : List ℕ) (want : Want) (v : State) → IsWordWant job want → Carries job memory (fetched_state job want v) →
-    StandsFor job (record { core = retired_with want.access (met_bytes want.access memory) (core_of (fetched_state job want v)); memory = memory_after want.access memory }) (performed want.access (fetched_state job want v))
-done job memory want v w s =
-    access_cases (λ ac. want.access ≡ ac → want.line ≡ line_of job.shape ac.address → want.kind ≡ kind_of ac.op →
-    StandsFor job (record { core = retired_with ac (met_bytes ac memory) (core_of (fetched_state job want v)); memory = memory_after ac memory }) (performed ac (fetched_state job want v)))
-    job.shape.memory want.access w.access (λ rd a o is same access line kind. done_load job memory want v rd a o access line s is) (λ a o is same access line kind. done_store job memory want v a o access line kind s is) refl w.line w.kind
+-- the wanted access has permission where its line was fetched
+fetched_grants : (job : JobValue) (want : Want) (v : State) → IsWantOf job want → permits (kind_of want.access.op) (mode_of (line_of job.shape want.access.address) (held_of (fetched_lines job want v))) ≡ true
+fetched_grants job want v w = ap (λ (l : ℕ). permits (kind_of want.access.op) (mode_of l (held_of (fetched_lines job want v)))) (sym w.line)
+    ∙ ap (permits (kind_of want.access.op)) (fetched_here job want v) ∙ ap (λ (k : Kind). permits (kind_of want.access.op) (Some (mode_for k))) w.kind ∙ served_grants (kind_of want.access.op)
 
 pub serves : (job : JobValue) (memory : List ℕ) (v : State) (want : Want) → Carries job memory v → v.want ≡ Some want → mode_of want.line (held_of v.cache.lines) ≢ Some Modified → (want.line + 1) * job.shape.line_words ≤ length v.memory →
     StandsFor job (filled_context want (with_memory memory v)) (served want v)
 serves job memory v want s wants unowned within = let u : State = fetched_state job want v in
-    let d = done job memory want v (s.want want wants) (fetched_carries job memory want v s unowned within) in
+    let w = s.want want wants in let d = performs job memory u want.access (fetched_carries job memory want v s unowned within) w.access (fetched_grants job want v w) in
     subst (StandsFor job (filled_context want (with_memory memory v))) (sym (served_same job want v s.shape)) (record {
-      carries = rebuilt job (memory_after want.access memory) (memory_after want.access memory) (performed want.access u) (served_by job want v) d.carries refl refl refl refl refl d.carries.agree (λ w none. absurd (grind arith));
+      carries = rebuilt job (memory_after want.access memory) (memory_after want.access memory) (performed want.access u) (served_by job want v) d.carries refl refl refl refl d.carries.below refl d.carries.agree (λ w none. absurd (grind arith));
       core = ap (λ (h : List (ℕ × Mode)). let k : CoreState = record (retired_with want.access (met_bytes want.access memory) (core_of v)) { held = h; want = None; turn = WriteBackTurn } in k) (sym (filled_held job want v))
           ∙ ap (λ (j : CoreState). let i : CoreState = record j { want = None; turn = WriteBackTurn } in i) d.core;
     })
@@ -234,10 +216,10 @@ backed_agree job memory v line s held =
     (λ l. ap (mode_of l) (held_of-others line v.cache.lines) ∙ mode_without l line (held_of v.cache.lines))
     (λ l other. words_of-others line l v.cache.lines ∙ grind arith) s.agree
 
-cleared_word : (job : JobValue) (line : ℕ) (o : Option Want) → ((want : Want) → o ≡ Some want → IsWordWant job want) → (want : Want) → option_map (clear_victim line) o ≡ Some want → IsWordWant job want
+cleared_word : (job : JobValue) (line : ℕ) (o : Option Want) → ((want : Want) → o ≡ Some want → IsWantOf job want) → (want : Want) → option_map (clear_victim line) o ≡ Some want → IsWantOf job want
 cleared_word job line None old want is = absurd (grind arith)
 cleared_word job line (Some w) old want is = let word = old w refl in record {
-  access = subst (IsWordAccess job.shape.memory) (grind arith) word.access;
+  access = subst (IsAccessTo job.shape.memory) (grind arith) word.access;
   line = (let l = word.line in grind arith);
   kind = (let k = word.kind in grind arith);
   unposted = (let u = word.unposted in grind arith);
@@ -255,7 +237,7 @@ pub backs : (job : JobValue) (memory : List ℕ) (v : State) (line : ℕ) (lines
       memory = memory;
     }) (back_to line lines v)
 backs job memory v line lines s is held = record {
-  carries = rebuilt job memory memory v (back_to line lines v) s refl refl refl refl (backed_length job memory v line s held)
+  carries = rebuilt job memory memory v (back_to line lines v) s refl refl refl refl s.below (backed_length job memory v line s held)
       (subst (λ (g : Geometry). CopiesAgree job memory (others line v.cache.lines) (take (line * g.line_words) v.memory ++ words_of line v.cache.lines ++ drop ((line + 1) * g.line_words) v.memory)) (sym s.shape)
       (backed_agree job memory v line s held))
       (cleared_word job line v.want s.want);

@@ -1,60 +1,27 @@
 -- Copies go on agreeing with the flat memory.
-use Rattle.std.proofs.Common.{◌≡◌, ◌≢◌, ℕ, ◌+◌, ◌-◌, ◌*◌, ◌/◌, ◌%◌, ◌^◌, ◌<◌, ◌≤◌, ◌==◌, List, ◌++◌, length, get_or, set, take, drop, Option, Some, None, if◌then◌else◌, sym, ap, ◌∙◌, subst, arith, get_or-set_same, get_or-set_other, length-set, length-append, length-drop, get_or-take, get_or-drop}
+use Rattle.std.proofs.Common.{◌≡◌, ◌≢◌, ℕ, ◌+◌, ◌-◌, ◌*◌, ◌/◌, ◌%◌, ◌<◌, ◌≤◌, ◌==◌, List, ◌++◌, All, length, get_or, set, take, drop, Option, Some, None, if◌then◌else◌, sym, ap, ◌∙◌, subst, arith, get_or-set_same, get_or-set_other, length-set, length-append, length-drop, get_or-take, get_or-drop}
+use Rattle.pmsi_model.specs.declared.Access.{Access}
+use Rattle.pmsi_model.specs.declared.AccessOp.{AccessOp}
+use Rattle.pmsi_model.specs.declared.AccessOp.TheVariants.{Load, Store, Amo}
+use Rattle.pmsi_model.specs.declared.instr.LoadOp.TheVariants.{Lb, Lh, Lw, Lbu, Lhu}
+use Rattle.pmsi_model.specs.declared.instr.StoreOp.TheVariants.{Sb, Sh, Sw}
 use Rattle.pmsi_model.specs.declared.Mode.{Mode}
 use Rattle.pmsi_model.specs.declared.Mode.TheVariants.{Modified}
 use Rattle.pmsi_model.specs.Words.{number_of, bytes_of}
-use Rattle.pmsi_model.specs.Phase.{bytes_from, with_bytes}
+use Rattle.pmsi_model.specs.Access.{access_bytes, amo_word, store_width, width_of}
+use Rattle.pmsi_model.specs.Phase.{bytes_from, met_bytes, memory_after, with_bytes}
+use Rattle.rv_exec.specs.Accesses.{bytes_after, covered}
 use Rattle.std.proofs.lemmas.List.{ext_get_or, length-take-le, get_or_append_left, get_or-append_right}
 use Rattle.std.proofs.lemmas.Nat.{same_from_place, div-add-mod', mod_below}
-use Rattle.pmsi_model.proofs.Bytes.{length-bytes_from, get_or-bytes_from, length-with_bytes, get_or-with_bytes_before, get_or-with_bytes_past, get_or-with_bytes_at, length-bytes_of, number_of-bytes_of}
+use Rattle.pmsi_model.proofs.Bytes.{length-bytes_from, get_or-bytes_from, bytes_from_below, length-with_bytes, with_bytes_below, get_or-with_bytes_before, get_or-with_bytes_past, get_or-with_bytes_at, length-bytes_of, bytes_of_below, bytes_of-number_of}
 use mathlib.Core.Logic.{dite}
 use native.Mathlib.Decide.{ℕ_discrete, dec_le, dec_lt}
 use Rattle.std.proofs.Math.Nat.{div-eq_of_lt-le}
+use Rattle.pmsi_model.specs.declared.job.Geometry.{Geometry}
+use Rattle.pmsi_model.specs.Geometry.{line_of}
+use Rattle.cache_array.specs.Cache.{word_place}
 use Rattle.sim_serial.specs.Words.{word_at}
 use Rattle.sim_serial.specs.Agrees.{Agrees}
-
--- ---- words of memory
-
--- the word at an aligned address is written
-bytes_here : (a : ℕ) (bytes memory : List ℕ) → length bytes ≡ 4 → a + 4 ≤ length memory → bytes_from a 4 (with_bytes a bytes memory) ≡ bytes
-bytes_here a bytes memory size within = ext_get_or 0 (bytes_from a 4 (with_bytes a bytes memory)) bytes
-    (length-bytes_from a 4 (with_bytes a bytes memory) (omega (arith, length-with_bytes a bytes memory)) ∙ sym size)
-    (λ i below. let four : i < 4 = omega (arith, length-bytes_from a 4 (with_bytes a bytes memory) (omega (arith, length-with_bytes a bytes memory))) in
-    get_or-bytes_from a 4 (with_bytes a bytes memory) i four ∙ get_or-with_bytes_at a bytes memory i (omega arith) (omega arith))
-
-byte_else : (a at : ℕ) (bytes memory : List ℕ) → length bytes ≡ 4 → a % 4 ≡ 0 → at / 4 ≢ a / 4 → get_or (with_bytes a bytes memory) at 0 ≡ get_or memory at 0
-byte_else a at bytes memory size aligned other = dite (dec_le a at)
-    (λ above. get_or-with_bytes_past a bytes memory at (omega arith))
-    (λ under. get_or-with_bytes_before a bytes memory at (omega arith))
-
-bytes_else : (a i : ℕ) (bytes memory : List ℕ) → length bytes ≡ 4 → a % 4 ≡ 0 → a + 4 ≤ length memory → 4 * i + 4 ≤ length memory → i ≢ a / 4 → bytes_from (4 * i) 4 (with_bytes a bytes memory) ≡ bytes_from (4 * i) 4 memory
-bytes_else a i bytes memory size aligned within below other = ext_get_or 0 (bytes_from (4 * i) 4 (with_bytes a bytes memory)) (bytes_from (4 * i) 4 memory)
-    (length-bytes_from (4 * i) 4 (with_bytes a bytes memory) (omega (arith, length-with_bytes a bytes memory)) ∙ sym (length-bytes_from (4 * i) 4 memory below))
-    (λ j short. let four : j < 4 = omega (arith, length-bytes_from (4 * i) 4 (with_bytes a bytes memory) (omega (arith, length-with_bytes a bytes memory))) in
-    get_or-bytes_from (4 * i) 4 (with_bytes a bytes memory) j four ∙ byte_else a (4 * i + j) bytes memory size aligned (let q : (4 * i + j) / 4 ≡ i = omega arith in λ same. other (sym q ∙ same)) ∙ sym (get_or-bytes_from (4 * i) 4 memory j four))
-
-pub word_at-with_bytes : (a i operand : ℕ) (memory : List ℕ) → operand < 2 ^ 32 → a % 4 ≡ 0 → a + 4 ≤ length memory → 4 * i + 4 ≤ length memory →
-    word_at (with_bytes a (bytes_of 4 operand) memory) i ≡ (if i == a / 4 then operand else word_at memory i)
-word_at-with_bytes a i operand memory fits aligned within below = let size = length-bytes_of 4 operand in dite (ℕ_discrete i (a / 4))
-    (λ same. let at : 4 * i ≡ a = omega arith in let here = ap number_of (bytes_here a (bytes_of 4 operand) memory size within) ∙ number_of-bytes_of 4 operand fits in
-    let moved : word_at (with_bytes a (bytes_of 4 operand) memory) i ≡ operand = ap (λ (b : ℕ). number_of (bytes_from b 4 (with_bytes a (bytes_of 4 operand) memory))) at ∙ here in grind arith)
-    (λ other. let kept = ap number_of (bytes_else a i (bytes_of 4 operand) memory size aligned within below other) in grind arith)
-
--- ---- places
-
--- the word at an address, by its line and its place in the line
-pub place_of_word : (a count : ℕ) → 0 < count → a / (4 * count) * count + a % (4 * count) / 4 ≡ a / 4
-place_of_word a count some = let parts = div-add-mod' a (4 * count) in let q : ℕ = a / (4 * count) in let r : ℕ = a % (4 * count) in
-    let m : q * (4 * count) ≡ 4 * (q * count) = grind arith in let p : ℕ = q * count in omega arith
-
-pub place_below : (a count : ℕ) → 0 < count → a % (4 * count) / 4 < count
-place_below a count some = let below = mod_below a (4 * count) (omega arith) in omega arith
-
-mul_suc : (n count : ℕ) → (n + 1) * count ≡ n * count + count
-mul_suc n count = grind arith
-
-pub div-eq : (line place count : ℕ) → place < count → (line * count + place) / count ≡ line
-div-eq line place count below = div-eq_of_lt-le count (omega arith) (let m = mul_suc line count in omega arith)
 
 -- ---- a part of a list is replaced
 
@@ -79,6 +46,136 @@ module _ (words piece : List ℕ) (start stop : ℕ) (size : start + length piec
   pub spliced_after : (i : ℕ) → stop ≤ i → get_or (take start words ++ piece ++ drop stop words) i 0 ≡ get_or words i 0
   spliced_after i h = get_or-append_right (take start words ++ piece) (drop stop words) stop i 0 both_length h
       ∙ get_or-drop stop words (i - stop) 0 ∙ ap (λ (n : ℕ). get_or words n 0) (let e : stop + (i - stop) ≡ i = omega arith in e)
+
+-- ---- an access and the aligned word that holds its address
+
+pub lane_fits : (op : AccessOp) (a : ℕ) → a % width_of op ≡ 0 → a % 4 + width_of op ≤ 4
+lane_fits (Load Lb) a h = omega arith
+lane_fits (Load Lbu) a h = omega arith
+lane_fits (Load Lh) a h = omega arith
+lane_fits (Load Lhu) a h = omega arith
+lane_fits (Load Lw) a h = omega arith
+lane_fits (Store Sb) a h = omega arith
+lane_fits (Store Sh) a h = omega arith
+lane_fits (Store Sw) a h = omega arith
+lane_fits (Amo op) a h = omega arith
+
+module _ (a w : ℕ) (memory : List ℕ) (lane : a % 4 + w ≤ 4) (within : 4 * (a / 4) + 4 ≤ length memory) where
+  word_length : length (bytes_from (4 * (a / 4)) 4 memory) ≡ 4
+  word_length = length-bytes_from (4 * (a / 4)) 4 memory within
+
+  -- the bytes that are met, in the word
+  pub met_here : take w (drop (a % 4) (bytes_from (4 * (a / 4)) 4 memory)) ≡ bytes_from a w memory
+  met_here = let size : length (bytes_from a w memory) ≡ w = length-bytes_from a w memory (omega arith) in
+      ext_get_or 0 (take w (drop (a % 4) (bytes_from (4 * (a / 4)) 4 memory))) (bytes_from a w memory)
+      (length-take-le w (drop (a % 4) (bytes_from (4 * (a / 4)) 4 memory)) (omega (arith, length-drop (a % 4) (bytes_from (4 * (a / 4)) 4 memory), word_length)) ∙ sym size)
+      (λ i below. let short : i < w = omega (arith, length-take-le w (drop (a % 4) (bytes_from (4 * (a / 4)) 4 memory)) (omega (arith, length-drop (a % 4) (bytes_from (4 * (a / 4)) 4 memory), word_length))) in
+      get_or-take w (drop (a % 4) (bytes_from (4 * (a / 4)) 4 memory)) i 0 short ∙ get_or-drop (a % 4) (bytes_from (4 * (a / 4)) 4 memory) i 0
+      ∙ get_or-bytes_from (4 * (a / 4)) 4 memory (a % 4 + i) (omega arith) ∙ ap (λ (n : ℕ). get_or memory n 0) (let e : 4 * (a / 4) + (a % 4 + i) ≡ a + i = omega arith in e)
+      ∙ sym (get_or-bytes_from a w memory i short))
+
+  -- the word once bytes are written
+  pub written_here : (bytes : List ℕ) → length bytes ≡ w →
+      bytes_from (4 * (a / 4)) 4 (with_bytes a bytes memory) ≡ take (a % 4) (bytes_from (4 * (a / 4)) 4 memory) ++ bytes ++ drop (a % 4 + w) (bytes_from (4 * (a / 4)) 4 memory)
+  written_here bytes size = let old : List ℕ = bytes_from (4 * (a / 4)) 4 memory in let new : List ℕ = with_bytes a bytes memory in
+      let stop : a % 4 + length bytes ≡ a % 4 + w = omega arith in let fits : a % 4 + w ≤ length old = omega (arith, word_length) in
+      let here : length (bytes_from (4 * (a / 4)) 4 new) ≡ 4 = length-bytes_from (4 * (a / 4)) 4 new (omega (arith, length-with_bytes a bytes memory)) in
+      ext_get_or 0 (bytes_from (4 * (a / 4)) 4 new) (take (a % 4) old ++ bytes ++ drop (a % 4 + w) old)
+      (here ∙ sym (length-spliced old bytes (a % 4) (a % 4 + w) stop fits ∙ word_length))
+      (λ i below. let four : i < 4 = omega (arith, here) in get_or-bytes_from (4 * (a / 4)) 4 new i four ∙ dite (dec_lt i (a % 4))
+      (λ low. get_or-with_bytes_before a bytes memory (4 * (a / 4) + i) (omega arith) ∙ sym (get_or-bytes_from (4 * (a / 4)) 4 memory i four) ∙ sym (spliced_before old bytes (a % 4) (a % 4 + w) stop fits i low))
+      (λ high. dite (dec_lt i (a % 4 + w))
+      (λ mid. ap (λ (n : ℕ). get_or new n 0) (let e : 4 * (a / 4) + i ≡ a + (i - a % 4) = omega arith in e) ∙ get_or-with_bytes_at a bytes memory (i - a % 4) (omega arith) (omega arith)
+      ∙ sym (spliced_at old bytes (a % 4) (a % 4 + w) stop fits i (omega arith) mid))
+      (λ past. get_or-with_bytes_past a bytes memory (4 * (a / 4) + i) (omega arith) ∙ sym (get_or-bytes_from (4 * (a / 4)) 4 memory i four) ∙ sym (spliced_after old bytes (a % 4) (a % 4 + w) stop fits i (omega arith)))))
+
+  byte_else : (at : ℕ) (bytes : List ℕ) → length bytes ≡ w → at / 4 ≢ a / 4 → get_or (with_bytes a bytes memory) at 0 ≡ get_or memory at 0
+  byte_else at bytes size other = dite (dec_le a at)
+      (λ above. get_or-with_bytes_past a bytes memory at (omega arith))
+      (λ under. get_or-with_bytes_before a bytes memory at (omega arith))
+
+  -- another word
+  pub written_else : (i : ℕ) (bytes : List ℕ) → length bytes ≡ w → 4 * i + 4 ≤ length memory → i ≢ a / 4 → bytes_from (4 * i) 4 (with_bytes a bytes memory) ≡ bytes_from (4 * i) 4 memory
+  written_else i bytes size below other = let here : length (bytes_from (4 * i) 4 (with_bytes a bytes memory)) ≡ 4 = length-bytes_from (4 * i) 4 (with_bytes a bytes memory) (omega (arith, length-with_bytes a bytes memory)) in
+      ext_get_or 0 (bytes_from (4 * i) 4 (with_bytes a bytes memory)) (bytes_from (4 * i) 4 memory) (here ∙ sym (length-bytes_from (4 * i) 4 memory below))
+      (λ j short. let four : j < 4 = omega (arith, here) in
+      get_or-bytes_from (4 * i) 4 (with_bytes a bytes memory) j four ∙ byte_else (4 * i + j) bytes size (let q : (4 * i + j) / 4 ≡ i = omega arith in λ same. other (sym q ∙ same)) ∙ sym (get_or-bytes_from (4 * i) 4 memory j four))
+
+-- ---- words of memory
+
+-- the bytes of a word's number are those of the word
+word_bytes : (memory : List ℕ) (i : ℕ) → All (λ byte. byte < 256) memory → 4 * i + 4 ≤ length memory → bytes_of 4 (word_at memory i) ≡ bytes_from (4 * i) 4 memory
+word_bytes memory i small within = subst (λ (n : ℕ). bytes_of n (number_of (bytes_from (4 * i) 4 memory)) ≡ bytes_from (4 * i) 4 memory) (length-bytes_from (4 * i) 4 memory within)
+    (bytes_of-number_of (bytes_from (4 * i) 4 memory) (bytes_from_below (4 * i) 4 memory small))
+
+access_size : (op : AccessOp) (operand : ℕ) (bytes : List ℕ) → length bytes ≡ width_of op → length (access_bytes op operand bytes) ≡ width_of op
+access_size (Load op) operand bytes size = size
+access_size (Store op) operand bytes size = length-bytes_of (store_width op) operand
+access_size (Amo op) operand bytes size = length-bytes_of 4 (amo_word op (number_of bytes) operand)
+
+access_below : (op : AccessOp) (operand : ℕ) (bytes : List ℕ) → All (λ byte. byte < 256) bytes → All (λ byte. byte < 256) (access_bytes op operand bytes)
+access_below (Load op) operand bytes small = small
+access_below (Store op) operand bytes small = bytes_of_below (store_width op) operand
+access_below (Amo op) operand bytes small = bytes_of_below 4 (amo_word op (number_of bytes) operand)
+
+-- bytes of memory stay below 256
+pub after_below : (access : Access) (memory : List ℕ) → All (λ byte. byte < 256) memory → All (λ byte. byte < 256) (memory_after access memory)
+after_below access memory small = with_bytes_below access.address (access_bytes access.op access.operand (met_bytes access memory)) memory
+    (access_below access.op access.operand (met_bytes access memory) (bytes_from_below access.address (width_of access.op) memory small)) small
+
+module _ (access : Access) (memory : List ℕ) (aligned : access.address % width_of access.op ≡ 0) (small : All (λ byte. byte < 256) memory) (within : 4 * (access.address / 4) + 4 ≤ length memory) where
+  fits : access.address % 4 + width_of access.op ≤ 4
+  fits = lane_fits access.op access.address aligned
+
+  pub covered_is : covered access (word_at memory (access.address / 4)) ≡ met_bytes access memory
+  covered_is = ap (λ (bytes : List ℕ). take (width_of access.op) (drop (access.address % 4) bytes)) (word_bytes memory (access.address / 4) small within)
+      ∙ met_here access.address (width_of access.op) memory fits within
+
+  after_size : length (access_bytes access.op access.operand (met_bytes access memory)) ≡ width_of access.op
+  after_size = access_size access.op access.operand (met_bytes access memory) (length-bytes_from access.address (width_of access.op) memory (omega (arith, fits)))
+
+  after_is : bytes_from (4 * (access.address / 4)) 4 (memory_after access memory) ≡ bytes_after access (word_at memory (access.address / 4))
+  after_is = let lane : ℕ = access.address % 4 in let w : ℕ = width_of access.op in let met : List ℕ = met_bytes access memory in
+      written_here access.address w memory fits within (access_bytes access.op access.operand met) after_size
+      ∙ ap (λ (bytes : List ℕ). take lane bytes ++ access_bytes access.op access.operand met ++ drop (lane + w) bytes) (sym (word_bytes memory (access.address / 4) small within))
+      ∙ ap (λ (bytes : List ℕ). take lane (bytes_of 4 (word_at memory (access.address / 4))) ++ access_bytes access.op access.operand bytes ++ drop (lane + w) (bytes_of 4 (word_at memory (access.address / 4)))) (sym covered_is)
+
+  -- the words of memory after an access
+  pub word_at-after : (i : ℕ) → 4 * i + 4 ≤ length memory →
+      word_at (memory_after access memory) i ≡ (if i == access.address / 4 then number_of (bytes_after access (word_at memory (access.address / 4))) else word_at memory i)
+  word_at-after i below = dite (ℕ_discrete i (access.address / 4))
+      (λ same. let here : word_at (memory_after access memory) i ≡ number_of (bytes_after access (word_at memory (access.address / 4))) =
+      ap (λ (n : ℕ). word_at (memory_after access memory) n) same ∙ ap number_of after_is in grind arith)
+      (λ other. let kept : word_at (memory_after access memory) i ≡ word_at memory i =
+      ap number_of (written_else access.address (width_of access.op) memory fits within i (access_bytes access.op access.operand (met_bytes access memory)) after_size below other) in grind arith)
+
+-- ---- places
+
+-- the word at an address, by its line and its place in the line
+pub place_of_word : (a count : ℕ) → 0 < count → a / (4 * count) * count + a % (4 * count) / 4 ≡ a / 4
+place_of_word a count some = let parts = div-add-mod' a (4 * count) in let q : ℕ = a / (4 * count) in let r : ℕ = a % (4 * count) in
+    let m : q * (4 * count) ≡ 4 * (q * count) = grind arith in let p : ℕ = q * count in omega arith
+
+pub place_below : (a count : ℕ) → 0 < count → a % (4 * count) / 4 < count
+place_below a count some = let below = mod_below a (4 * count) (omega arith) in omega arith
+
+mul_suc : (n count : ℕ) → (n + 1) * count ≡ n * count + count
+mul_suc n count = grind arith
+
+pub div-eq : (line place count : ℕ) → place < count → (line * count + place) / count ≡ line
+div-eq line place count below = div-eq_of_lt-le count (omega arith) (let m = mul_suc line count in omega arith)
+
+-- an address and the aligned one of its word have one line and one place in it
+aligned_place : (a count : ℕ) → 0 < count → ((a - a % 4) / (4 * count) ≡ a / (4 * count)) × ((a - a % 4) % (4 * count) / 4 ≡ a % (4 * count) / 4)
+aligned_place a count some = let b : ℕ = a - a % 4 in let one : b / 4 ≡ a / 4 = omega arith in
+    same_from_place (b / (4 * count)) (b % (4 * count) / 4) (a / (4 * count)) (a % (4 * count) / 4) count (place_below b count some) (place_below a count some)
+    (place_of_word b count some ∙ one ∙ sym (place_of_word a count some))
+
+pub aligned_line : (shape : Geometry) (a : ℕ) → 0 < shape.line_words → line_of shape (a - a % 4) ≡ line_of shape a
+aligned_line shape a some = (aligned_place a shape.line_words some).0
+
+pub aligned_word : (shape : Geometry) (a : ℕ) → 0 < shape.line_words → word_place shape (a - a % 4) ≡ word_place shape a
+aligned_word shape a some = (aligned_place a shape.line_words some).1
 
 -- ---- agreement
 

@@ -1,4 +1,3 @@
-pub mod Table
 pub mod Agreement
 pub mod Steps
 pub mod Acts
@@ -8,3 +7,4 @@ pub mod Evictions
 pub mod Quanta
 pub mod Acting
 pub mod Sims
+pub mod Performs

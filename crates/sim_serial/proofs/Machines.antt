@@ -100,7 +100,7 @@ rows_same job slot v r next = r.rows ∙ sym (next ∙ append-nil (rows_of job s
 -- the slot's number is no part of what a state stands for
 stepped_stands : (job : JobValue) (y : Context) (v : State) → StandsFor job y v → StandsFor job y (stepped v)
 stepped_stands job y v s = let c = s.carries in record {
-  carries = record { within = c.within; one_core = c.one_core; shape = c.shape; cache = c.cache; text = c.text; bytes = c.bytes; words = c.words; agree = c.agree; want = c.want };
+  carries = record { within = c.within; one_core = c.one_core; shape = c.shape; cache = c.cache; text = c.text; bytes = c.bytes; below = c.below; words = c.words; agree = c.agree; want = c.want };
   core = s.core;
 }
 

@@ -57,6 +57,7 @@ opened job text memory room is one same size words fits = record {
       cache = refl;
       text = same;
       bytes = is.start;
+      below = is.bytes;
       words = size ∙ is.start;
       agree = record {
         cached = λ line place below held. absurd (held refl);

@@ -1,5 +1,5 @@
 -- What a state stands for after each part of an instruction.
-use Rattle.std.proofs.Common.{◌≡◌, ◌≢◌, ◌⊎◌, ℕ, ◌+◌, ◌*◌, ◌/◌, ◌%◌, ◌<◌, ◌≤◌, ◌==◌, List, length, get_or, Option, Some, None, Bool, true, false, if◌then◌else◌, refl, sym, ap, ◌∙◌, subst, inl, inr, arith}
+use Rattle.std.proofs.Common.{◌≡◌, ◌≢◌, ◌⊎◌, ℕ, ◌+◌, ◌*◌, ◌/◌, ◌%◌, ◌<◌, ◌≤◌, ◌==◌, List, All, length, get_or, Option, Some, None, Bool, true, false, if◌then◌else◌, refl, sym, ap, ◌∙◌, subst, inl, inr, arith}
 use Rattle.pmsi_model.specs.declared.job.Geometry.{Geometry}
 use Rattle.pmsi_model.specs.declared.Access.{Access}
 use Rattle.pmsi_model.specs.declared.AccessOp.{AccessOp}
@@ -14,15 +14,13 @@ use Rattle.pmsi_model.specs.declared.Mode.{Mode}
 use Rattle.pmsi_model.specs.declared.Mode.TheVariants.{Shared, Modified}
 use Rattle.pmsi_model.specs.declared.Status.TheVariants.{Halted}
 use Rattle.pmsi_model.specs.declared.Want.{Want}
-use Rattle.pmsi_model.specs.declared.instr.LoadOp.TheVariants.{Lw}
-use Rattle.pmsi_model.specs.declared.instr.StoreOp.TheVariants.{Sw}
-use Rattle.pmsi_model.specs.Words.{number_of, bytes_of}
+use Rattle.pmsi_model.specs.Words.{number_of}
 use Rattle.pmsi_model.specs.Geometry.{line_of}
-use Rattle.pmsi_model.specs.Access.{width_of, kind_of}
+use Rattle.pmsi_model.specs.Access.{access_bytes, access_value, kind_of, load_width, width_of}
 use Rattle.pmsi_model.specs.Job.{JobValue, IsJob, text_of}
 use Rattle.pmsi_model.specs.Effect.{Next, Memory, Stop, with_reg, next_pc}
 use Rattle.pmsi_model.specs.Machine.{CoreState, mode_of}
-use Rattle.pmsi_model.specs.Phase.{Context, bytes_from, met_bytes, memory_after, retired_with, evicted, drop_shared, victim_of, append_victim, missed, after_effect, accessed, is_permitted, permits, touched_line, can_run, instruction, effect_at, effect_of_word, effect_of_fetch}
+use Rattle.pmsi_model.specs.Phase.{Context, met_bytes, memory_after, retired_with, evicted, drop_shared, victim_of, append_victim, missed, after_effect, accessed, is_permitted, permits, touched_line, can_run, instruction, effect_at, effect_of_word, effect_of_fetch}
 use Rattle.pmsi_model.proofs.Bytes.{with_bytes_same, length-with_bytes}
 use Rattle.pmsi_model.specs.Coherent.{HoldsEachOnce}
 use Rattle.pmsi_model.proofs.Held.{mode_without, mode_to_front, evicted_held}
@@ -31,10 +29,11 @@ use Rattle.cache_array.specs.Cache.{CacheValue, held_of, words_of, word_place, o
 use Rattle.cache_array.proofs.Lines.{held_of-others, held_of-with_word, held_of-touched, words_of-others, words_of-with_word, words_of-touched}
 use Rattle.sim_serial.specs.declared.state.State.{State}
 use Rattle.sim_serial.specs.Words.{word_at}
-use Rattle.sim_serial.specs.State.{core_of, with_lines, lines_after, performed, gone_for, lines_without, with_room, wanting}
-use Rattle.sim_serial.specs.Fetched.{IsWordAccess}
-use Rattle.sim_serial.specs.Stands.{with_memory, IsWordWant, CopiesAgree, Carries, StandsFor}
-use Rattle.sim_serial.proofs.Agreement.{word_at-with_bytes, place_of_word, place_below, agrees_same, agrees_written, agrees_dropped}
+use Rattle.sim_serial.specs.State.{core_of, with_lines, lines_after, lines_with, met_in, performed, gone_for, lines_without, with_room, wanting}
+use Rattle.rv_exec.specs.Effects.{IsAccessTo}
+use Rattle.rv_exec.specs.Accesses.{bytes_after, covered}
+use Rattle.sim_serial.specs.Stands.{with_memory, IsWantOf, CopiesAgree, Carries, StandsFor}
+use Rattle.sim_serial.proofs.Agreement.{after_below, covered_is, lane_fits, word_at-after, place_of_word, place_below, agrees_same, agrees_written, agrees_dropped}
 
 pub either : {A B C : Type 0} → (A → C) → (B → C) → A ⊎ B → C
 either f g (inl a) = f a
@@ -50,14 +49,14 @@ owner_mode (Some Modified) granted = refl
 pub goes_on : (job : JobValue) (memory : List ℕ) (v : State) (slot pc : ℕ) (regs : List ℕ) → Carries job memory v →
     StandsFor job (after_effect job.shape slot (Next regs pc) (with_memory memory v)) (record v { regs = regs; pc = pc; retired = v.retired + 1 })
 goes_on job memory v slot pc regs s = record {
-  carries = record { within = s.within; one_core = s.one_core; shape = s.shape; cache = s.cache; text = s.text; bytes = s.bytes; words = s.words; agree = s.agree; want = s.want };
+  carries = record { within = s.within; one_core = s.one_core; shape = s.shape; cache = s.cache; text = s.text; bytes = s.bytes; below = s.below; words = s.words; agree = s.agree; want = s.want };
   core = refl;
 }
 
 pub stops : (job : JobValue) (memory : List ℕ) (v : State) (slot : ℕ) (halt : Halt) → Carries job memory v →
     StandsFor job (after_effect job.shape slot (Stop halt) (with_memory memory v)) (record v { status = Halted halt })
 stops job memory v slot halt s = record {
-  carries = record { within = s.within; one_core = s.one_core; shape = s.shape; cache = s.cache; text = s.text; bytes = s.bytes; words = s.words; agree = s.agree; want = s.want };
+  carries = record { within = s.within; one_core = s.one_core; shape = s.shape; cache = s.cache; text = s.text; bytes = s.bytes; below = s.below; words = s.words; agree = s.agree; want = s.want };
   core = refl;
 }
 
@@ -67,11 +66,6 @@ stops job memory v slot halt s = record {
 pub words_some : (job : JobValue) → IsJob job → 0 < job.shape.line_words
 words_some job is = let least = is.shape.least_line in omega arith
 
--- the word that an access meets
-met_word : (access : Access) (memory : List ℕ) → width_of access.op ≡ 4 → access.address % 4 ≡ 0 → number_of (met_bytes access memory) ≡ word_at memory (access.address / 4)
-met_word access memory four aligned = let at : 4 * (access.address / 4) ≡ access.address = omega arith in
-    ap (λ (w : ℕ). number_of (bytes_from access.address w memory)) four ∙ ap (λ (a : ℕ). number_of (bytes_from a 4 memory)) (sym at)
-
 -- the word of a held line at an address is that of memory
 held_word : (job : JobValue) (memory : List ℕ) (v : State) (address : ℕ) → Carries job memory v → mode_of (line_of job.shape address) (held_of v.cache.lines) ≢ None →
     get_or (words_of (line_of job.shape address) v.cache.lines) (word_place job.shape address) 0 ≡ word_at memory (address / 4)
@@ -79,60 +73,84 @@ held_word job memory v address s held = let some = words_some job s.within in
     s.agree.cached (line_of job.shape address) (word_place job.shape address) (place_below address job.shape.line_words some) held
     ∙ ap (word_at memory) (place_of_word address job.shape.line_words some)
 
--- an aligned address below the size has its whole word in memory
-inside : (job : JobValue) (memory : List ℕ) (v : State) (access : Access) → Carries job memory v → IsWordAccess job.shape.memory access → access.address + 4 ≤ length memory
-inside job memory v access s a = let w = s.words in let b = s.bytes in let below = a.within in let even = a.aligned in omega arith
+-- the word of an address below the size is in memory
+inside : (job : JobValue) (memory : List ℕ) (v : State) (address : ℕ) → Carries job memory v → address < job.shape.memory → 4 * (address / 4) + 4 ≤ length memory
+inside job memory v address s below = let w = s.words in let b = s.bytes in omega arith
 
 -- the state with other lines, registers and memory still carries the job
 pub rebuilt : (job : JobValue) (memory memory' : List ℕ) (v v' : State) → Carries job memory v → v'.shape ≡ v.shape → v'.cache.shape ≡ v.cache.shape → v'.text ≡ v.text → length memory' ≡ length memory →
-    length v'.memory ≡ length v.memory → CopiesAgree job memory' v'.cache.lines v'.memory → ((want : Want) → v'.want ≡ Some want → IsWordWant job want) → Carries job memory' v'
-rebuilt job memory memory' v v' s shape cache text bytes words agree want = record {
+    All (λ byte. byte < 256) memory' → length v'.memory ≡ length v.memory → CopiesAgree job memory' v'.cache.lines v'.memory → ((want : Want) → v'.want ≡ Some want → IsWantOf job want) → Carries job memory' v'
+rebuilt job memory memory' v v' s shape cache text bytes below words agree want = record {
   within = s.within;
   one_core = s.one_core;
   shape = shape ∙ s.shape;
   cache = cache ∙ s.cache;
   text = text ∙ s.text;
   bytes = bytes ∙ s.bytes;
+  below = below;
   words = ap (λ (n : ℕ). 4 * n) words ∙ s.words;
   agree = agree;
   want = want;
 }
 
-abbrev pub load : ℕ → ℕ → ℕ → Access
-load rd address operand = record { op = Load Lw; rd = rd; address = address; operand = operand }
+lines_held : (kind : Kind) (line place word : ℕ) (lines : List CachedLine) → held_of (lines_after kind line place word lines) ≡ held_of lines
+lines_held Read line place word lines = refl
+lines_held Write line place word lines = held_of-with_word line place word lines
 
-abbrev pub store : ℕ → ℕ → Access
-store address operand = record { op = Store Sw; rd = 0; address = address; operand = operand }
+-- an access changes no line's mode
+pub performed_held : (access : Access) (v : State) → held_of (performed access v).cache.lines ≡ held_of v.cache.lines
+performed_held access v = lines_held (kind_of access.op) (line_of v.cache.shape access.address) (word_place v.cache.shape access.address) (number_of (bytes_after access (met_in access v.cache))) v.cache.lines
 
--- the core that has done an access is that of the state that has
-pub load_core : (job : JobValue) (memory : List ℕ) (v : State) (rd a o : ℕ) → Carries job memory v → a % 4 ≡ 0 → mode_of (line_of job.shape a) (held_of v.cache.lines) ≢ None →
-    retired_with (load rd a o) (met_bytes (load rd a o) memory) (core_of v) ≡ core_of (performed (load rd a o) v)
-load_core job memory v rd a o s aligned held =
-    let value : number_of (met_bytes (load rd a o) memory) ≡ get_or (words_of (line_of v.cache.shape a) v.cache.lines) (word_place v.cache.shape a) 0 =
-    met_word (load rd a o) memory refl aligned ∙ sym (held_word job memory v a s held)
-    ∙ ap (λ (g : Geometry). get_or (words_of (line_of g a) v.cache.lines) (word_place g a) 0) (sym s.cache) in
-    ap (λ (n : ℕ). let k : CoreState = core_of v in let j : CoreState = record k { regs = with_reg k.regs rd n; pc = next_pc k.pc; retired = k.retired + 1 } in j) value
+pub granted_held : (kind : Kind) (mode : Option Mode) → permits kind mode ≡ true → mode ≢ None
+granted_held Read None granted is = absurd (grind arith)
+granted_held Read (Some mode) granted is = absurd (grind arith)
+granted_held Write None granted is = absurd (grind arith)
+granted_held Write (Some mode) granted is = absurd (grind arith)
 
-pub store_core : (memory : List ℕ) (v : State) (a o : ℕ) → retired_with (store a o) (met_bytes (store a o) memory) (core_of v) ≡ core_of (performed (store a o) v)
-store_core memory v a o =
-    ap (λ (h : List (ℕ × Mode)). let k : CoreState = core_of v in let j : CoreState = record k { pc = next_pc k.pc; retired = k.retired + 1; held = h } in j)
-    (sym (held_of-with_word (line_of v.cache.shape a) (word_place v.cache.shape a) o v.cache.lines))
+-- an access that reads leaves memory
+reads_only : (op : AccessOp) (rd a o : ℕ) (memory : List ℕ) → kind_of op ≡ Read → a + width_of op ≤ length memory → memory_after (record { op = op; rd = rd; address = a; operand = o }) memory ≡ memory
+reads_only (Load op) rd a o memory read within = with_bytes_same a (load_width op) memory within
+reads_only (Store op) rd a o memory read within = absurd cc
+reads_only (Amo op) rd a o memory read within = absurd cc
 
-pub load_memory : (job : JobValue) (memory : List ℕ) (v : State) (rd a o : ℕ) → Carries job memory v → IsWordAccess job.shape.memory (load rd a o) → memory_after (load rd a o) memory ≡ memory
-load_memory job memory v rd a o s access = with_bytes_same a 4 memory (inside job memory v (load rd a o) s access)
-
--- copies agree when a word was stored in an owned line
-pub store_agree : (job : JobValue) (memory : List ℕ) (v : State) (a o : ℕ) → Carries job memory v → IsWordAccess job.shape.memory (store a o) → mode_of (line_of job.shape a) (held_of v.cache.lines) ≡ Some Modified →
-    CopiesAgree job (memory_after (store a o) memory) (with_word (line_of job.shape a) (word_place job.shape a) o v.cache.lines) v.memory
-store_agree job memory v a o s access owned =
-    let some = words_some job s.within in let line : ℕ = line_of job.shape a in let place : ℕ = word_place job.shape a in
-    agrees_written job.shape.line_words some memory (memory_after (store a o) memory) (λ l. mode_of l (held_of v.cache.lines)) (λ l. mode_of l (held_of (with_word line place o v.cache.lines)))
-    (λ l. words_of l v.cache.lines) (λ l. words_of l (with_word line place o v.cache.lines)) v.memory line place o (place_below a job.shape.line_words some) owned (s.words ∙ sym s.bytes)
-    (λ l. ap (mode_of l) (held_of-with_word line place o v.cache.lines))
-    (λ l. words_of-with_word line l place o v.cache.lines)
-    (λ i below. subst (λ (n : ℕ). word_at (memory_after (store a o) memory) i ≡ (if i == n then o else word_at memory i)) (sym (place_of_word a job.shape.line_words some))
-    (word_at-with_bytes a i o memory access.operand access.aligned (inside job memory v (store a o) s access) below))
+-- copies agree after an access with permission
+access_agree : (job : JobValue) (memory : List ℕ) (v : State) (access : Access) (kind : Kind) → kind_of access.op ≡ kind → Carries job memory v → IsAccessTo job.shape.memory access →
+    permits kind (mode_of (line_of job.shape access.address) (held_of v.cache.lines)) ≡ true →
+    CopiesAgree job (memory_after access memory) (lines_after kind (line_of job.shape access.address) (word_place job.shape access.address) (number_of (bytes_after access (word_at memory (access.address / 4)))) v.cache.lines) v.memory
+access_agree job memory v access Read is s a granted =
+    subst (λ (m : List ℕ). CopiesAgree job m v.cache.lines v.memory)
+    (sym (reads_only access.op access.rd access.address access.operand memory is (let i = inside job memory v access.address s a.within in omega (arith, lane_fits access.op access.address a.aligned)))) s.agree
+access_agree job memory v access Write is s a granted =
+    let some = words_some job s.within in let line : ℕ = line_of job.shape access.address in let place : ℕ = word_place job.shape access.address in
+    let new : ℕ = number_of (bytes_after access (word_at memory (access.address / 4))) in
+    agrees_written job.shape.line_words some memory (memory_after access memory) (λ l. mode_of l (held_of v.cache.lines)) (λ l. mode_of l (held_of (with_word line place new v.cache.lines)))
+    (λ l. words_of l v.cache.lines) (λ l. words_of l (with_word line place new v.cache.lines)) v.memory line place new (place_below access.address job.shape.line_words some)
+    (owner_mode (mode_of line (held_of v.cache.lines)) granted) (s.words ∙ sym s.bytes)
+    (λ l. ap (mode_of l) (held_of-with_word line place new v.cache.lines))
+    (λ l. words_of-with_word line l place new v.cache.lines)
+    (λ i below. subst (λ (n : ℕ). word_at (memory_after access memory) i ≡ (if i == n then new else word_at memory i)) (sym (place_of_word access.address job.shape.line_words some))
+    (word_at-after access memory a.aligned s.below (inside job memory v access.address s a.within) i below))
     s.agree
+
+-- what a state stands for once an access with permission is done
+pub performs : (job : JobValue) (memory : List ℕ) (v : State) (access : Access) → Carries job memory v → IsAccessTo job.shape.memory access →
+    permits (kind_of access.op) (mode_of (line_of job.shape access.address) (held_of v.cache.lines)) ≡ true →
+    StandsFor job (record { core = retired_with access (met_bytes access memory) (core_of v); memory = memory_after access memory }) (performed access v)
+performs job memory v access s a granted =
+    let line : ℕ = line_of job.shape access.address in let within = inside job memory v access.address s a.within in
+    let word : met_in access v.cache ≡ word_at memory (access.address / 4) =
+    ap (λ (g : Geometry). get_or (words_of (line_of g access.address) v.cache.lines) (word_place g access.address) 0) s.cache
+    ∙ held_word job memory v access.address s (granted_held (kind_of access.op) (mode_of line (held_of v.cache.lines)) granted) in
+    let met : met_bytes access memory ≡ covered access (met_in access v.cache) = sym (ap (covered access) word ∙ covered_is access memory a.aligned s.below within) in
+    let agree : CopiesAgree job (memory_after access memory) (lines_with access v.cache) v.memory =
+    subst (λ (g : Geometry). CopiesAgree job (memory_after access memory) (lines_after (kind_of access.op) (line_of g access.address) (word_place g access.address) (number_of (bytes_after access (met_in access v.cache))) v.cache.lines) v.memory) (sym s.cache)
+    (subst (λ (w : ℕ). CopiesAgree job (memory_after access memory) (lines_after (kind_of access.op) line (word_place job.shape access.address) (number_of (bytes_after access w)) v.cache.lines) v.memory) (sym word)
+    (access_agree job memory v access (kind_of access.op) refl s a granted)) in record {
+      carries = rebuilt job memory (memory_after access memory) v (performed access v) s refl refl refl (length-with_bytes access.address (access_bytes access.op access.operand (met_bytes access memory)) memory)
+          (after_below access memory s.below) refl agree s.want;
+      core = ap (λ (bytes : List ℕ). let k : CoreState = core_of v in let j : CoreState = record k { regs = with_reg k.regs access.rd (access_value access.op bytes); pc = next_pc k.pc; retired = k.retired + 1 } in j) met
+          ∙ ap (λ (h : List (ℕ × Mode)). let k : CoreState = core_of (performed access v) in let j : CoreState = record k { held = h } in j) (sym (performed_held access v));
+    }
 
 -- a line that goes to the front changes no mode and no word
 touched_mode : (l line : ℕ) (mode : Option Mode) (held : List (ℕ × Mode)) → mode_of line held ≡ mode → mode_of l (touched_line mode line held) ≡ mode_of l held
@@ -159,43 +177,14 @@ hit_core : (line : ℕ) (access : Access) (v : State) (k : CoreState) → k ≡ 
 hit_core line access v k same = ap (λ (j : CoreState). let i : CoreState = record j { held = touched_line (mode_of line j.held) line j.held } in i) same
     ∙ ap (λ (h : List (ℕ × Mode)). let j : CoreState = core_of (performed access v) in let i : CoreState = record j { held = h } in i) (sym (held_of-touched line (performed access v).cache.lines))
 
-hit_load : (job : JobValue) (memory : List ℕ) (v : State) (rd a o : ℕ) → Carries job memory v → IsWordAccess job.shape.memory (load rd a o) → permits Read (mode_of (line_of job.shape a) (held_of v.cache.lines)) ≡ true →
-    StandsFor job (accessed job.shape (load rd a o) (with_memory memory v)) (hit_state (line_of job.shape a) (load rd a o) v)
-hit_load job memory v rd a o s access granted = let line : ℕ = line_of job.shape a in let held : mode_of line (held_of v.cache.lines) ≢ None = grind arith in
-    let same = load_memory job memory v rd a o s access in record {
-      carries = rebuilt job memory (memory_after (load rd a o) memory) v (hit_state line (load rd a o) v) s refl refl refl (ap length same) refl
-          (subst (λ m. CopiesAgree job m (touched line v.cache.lines) v.memory) (sym same) (touched_agree job memory line v.cache.lines v.memory s.within s.agree)) s.want;
-      core = hit_core line (load rd a o) v (retired_with (load rd a o) (met_bytes (load rd a o) memory) (core_of v)) (load_core job memory v rd a o s access.aligned held);
-    }
-
-hit_store : (job : JobValue) (memory : List ℕ) (v : State) (a o : ℕ) → Carries job memory v → IsWordAccess job.shape.memory (store a o) → permits Write (mode_of (line_of job.shape a) (held_of v.cache.lines)) ≡ true →
-    StandsFor job (accessed job.shape (store a o) (with_memory memory v)) (hit_state (line_of job.shape a) (store a o) v)
-hit_store job memory v a o s access granted = let line : ℕ = line_of job.shape a in let owned : mode_of line (held_of v.cache.lines) ≡ Some Modified = owner_mode (mode_of line (held_of v.cache.lines)) granted in
-    let stored : List CachedLine = with_word (line_of v.cache.shape a) (word_place v.cache.shape a) o v.cache.lines in
-    let agree : CopiesAgree job (memory_after (store a o) memory) stored v.memory =
-    subst (λ (g : Geometry). CopiesAgree job (memory_after (store a o) memory) (with_word (line_of g a) (word_place g a) o v.cache.lines) v.memory) (sym s.cache) (store_agree job memory v a o s access owned) in record {
-      carries = rebuilt job memory (memory_after (store a o) memory) v (hit_state line (store a o) v) s refl refl refl (length-with_bytes a (bytes_of 4 o) memory) refl
-          (touched_agree job (memory_after (store a o) memory) line stored v.memory s.within agree) s.want;
-      core = hit_core line (store a o) v (retired_with (store a o) (met_bytes (store a o) memory) (core_of v)) (store_core memory v a o);
-    }
-
--- an access is one of the two
-pub access_cases : (P : Access → Type 0) (memory : ℕ) (access : Access) → IsWordAccess memory access → ((rd a o : ℕ) → IsWordAccess memory (load rd a o) → access ≡ load rd a o → P (load rd a o)) →
-    ((a o : ℕ) → IsWordAccess memory (store a o) → access ≡ store a o → P (store a o)) → P access
-access_cases P memory access is loads stores = either
-    (λ op. let same : access ≡ load access.rd access.address access.operand = ap (λ o. let b : Access = record access { op = o } in b) op in
-    subst P (sym same) (loads access.rd access.address access.operand (subst (IsWordAccess memory) same is) same))
-    (λ op. let same : access ≡ store access.address access.operand =
-    ap (λ o. let b : Access = record access { op = o } in b) op.0 ∙ ap (λ r. let b : Access = record { op = Store Sw; rd = r; address = access.address; operand = access.operand } in b) op.1 in
-    subst P (sym same) (stores access.address access.operand (subst (IsWordAccess memory) same is) same))
-    is.op
-
-pub hits : (job : JobValue) (memory : List ℕ) (v : State) (slot : ℕ) (access : Access) → Carries job memory v → IsWordAccess job.shape.memory access → is_permitted job.shape access (core_of v) ≡ true →
+pub hits : (job : JobValue) (memory : List ℕ) (v : State) (slot : ℕ) (access : Access) → Carries job memory v → IsAccessTo job.shape.memory access → is_permitted job.shape access (core_of v) ≡ true →
     StandsFor job (after_effect job.shape slot (Memory access) (with_memory memory v)) (hit_state (line_of job.shape access.address) access v)
-hits job memory v slot access s is granted =
-    subst (λ y. StandsFor job y (hit_state (line_of job.shape access.address) access v)) (sym (granted_done job.shape slot access (with_memory memory v) granted))
-    (access_cases (λ ac. is_permitted job.shape ac (core_of v) ≡ true → StandsFor job (accessed job.shape ac (with_memory memory v)) (hit_state (line_of job.shape ac.address) ac v)) job.shape.memory access is
-    (λ rd a o word same. hit_load job memory v rd a o s word) (λ a o word same. hit_store job memory v a o s word) granted)
+hits job memory v slot access s is granted = let line : ℕ = line_of job.shape access.address in let d = performs job memory v access s is granted in
+    subst (λ y. StandsFor job y (hit_state line access v)) (sym (granted_done job.shape slot access (with_memory memory v) granted)) (record {
+      carries = rebuilt job (memory_after access memory) (memory_after access memory) (performed access v) (hit_state line access v) d.carries refl refl refl refl d.carries.below refl
+          (touched_agree job (memory_after access memory) line (performed access v).cache.lines v.memory s.within d.carries.agree) d.carries.want;
+      core = hit_core line access v (retired_with access (met_bytes access memory) (core_of v)) d.core;
+    })
 
 -- ---- a miss
 
@@ -238,19 +227,19 @@ missed_core slot shape access v cache now =
 
 abbrev IfWanted : JobValue → Option Want → Type 0
 IfWanted job None = Unit {0}
-IfWanted job (Some want) = IsWordWant job want
+IfWanted job (Some want) = IsWantOf job want
 
-if_wanted : (job : JobValue) (want : Want) → IfWanted job (Some want) → IsWordWant job want
+if_wanted : (job : JobValue) (want : Want) → IfWanted job (Some want) → IsWantOf job want
 if_wanted job want is = is
 
-new_want : (job : JobValue) (access : Access) (v : State) (want : Want) → IsWordAccess job.shape.memory access → (wanting access (line_of job.shape access.address) v).want ≡ Some want → IsWordWant job want
+new_want : (job : JobValue) (access : Access) (v : State) (want : Want) → IsAccessTo job.shape.memory access → (wanting access (line_of job.shape access.address) v).want ≡ Some want → IsWantOf job want
 new_want job access v want is wants = let P : Option Want → Type 0 = λ o. IfWanted job o in if_wanted job want (subst P wants (record { access = is; line = refl; kind = refl; unposted = refl }))
 
-pub misses : (job : JobValue) (memory : List ℕ) (v : State) (slot : ℕ) (access : Access) → Carries job memory v → v.slot ≡ slot → HoldsEachOnce (held_of v.cache.lines) → IsWordAccess job.shape.memory access →
+pub misses : (job : JobValue) (memory : List ℕ) (v : State) (slot : ℕ) (access : Access) → Carries job memory v → v.slot ≡ slot → HoldsEachOnce (held_of v.cache.lines) → IsAccessTo job.shape.memory access →
     is_permitted job.shape access (core_of v) ≡ false → StandsFor job (after_effect job.shape slot (Memory access) (with_memory memory v)) (wanting access (line_of job.shape access.address) v)
 misses job memory v slot access s now once is denied = let line : ℕ = line_of job.shape access.address in
     subst (λ y. StandsFor job y (wanting access line v)) (sym (denied_missed job.shape slot access (with_memory memory v) denied)) (record {
-      carries = rebuilt job memory memory v (wanting access line v) s refl refl refl refl refl
+      carries = rebuilt job memory memory v (wanting access line v) s refl refl refl refl s.below refl
           (dropped_agree job memory (gone_for line v) v.cache.lines v.memory s.within (λ h gone. (evicted_held v.cache.shape line (held_of v.cache.lines) h once gone).0) s.agree)
           (λ want wants. new_want job access v want is wants);
       core = missed_core slot job.shape access v s.cache now;
@@ -258,41 +247,26 @@ misses job memory v slot access s now once is denied = let line : ℕ = line_of 
 
 -- ---- as the code has them
 
-lines_held : (op : AccessOp) (line place operand : ℕ) (lines : List CachedLine) → held_of (lines_after op line place operand lines) ≡ held_of lines
-lines_held (Load op) line place operand lines = refl
-lines_held (Store op) line place operand lines = held_of-with_word line place operand lines
-lines_held (Amo op) line place operand lines = held_of-with_word line place operand lines
-
--- an access changes no line's mode
-pub performed_held : (access : Access) (v : State) → held_of (performed access v).cache.lines ≡ held_of v.cache.lines
-performed_held access v = lines_held access.op (line_of v.cache.shape access.address) (word_place v.cache.shape access.address) access.operand v.cache.lines
-
-pub granted_held : (kind : Kind) (mode : Option Mode) → permits kind mode ≡ true → mode ≢ None
-granted_held Read None granted is = absurd (grind arith)
-granted_held Read (Some mode) granted is = absurd (grind arith)
-granted_held Write None granted is = absurd (grind arith)
-granted_held Write (Some mode) granted is = absurd (grind arith)
-
-word_of_job : (job : JobValue) (memory : List ℕ) (v : State) (access : Access) → Carries job memory v → IsWordAccess v.shape.memory access → IsWordAccess job.shape.memory access
-word_of_job job memory v access s is = subst (λ (g : Geometry). IsWordAccess g.memory access) s.shape is
+within_job : (job : JobValue) (memory : List ℕ) (v : State) (access : Access) → Carries job memory v → IsAccessTo v.shape.memory access → IsAccessTo job.shape.memory access
+within_job job memory v access s is = subst (λ (g : Geometry). IsAccessTo g.memory access) s.shape is
 
 hit_is : (line : ℕ) (access : Access) (v u : State) (cache : CacheValue) → u ≡ performed access v → cache ≡ record u.cache { lines = touched line u.cache.lines } → record u { cache = cache } ≡ hit_state line access v
 hit_is line access v u cache done front = ap (λ (c : CacheValue). let w : State = record u { cache = c } in w) front ∙ ap (λ (w : State). with_lines (touched line w.cache.lines) w) done
 
-pub access_hits : (job : JobValue) (memory : List ℕ) (v u : State) (cache : CacheValue) (line : ℕ) (access : Access) → Carries job memory v → IsWordAccess v.shape.memory access → line ≡ line_of v.shape access.address →
+pub access_hits : (job : JobValue) (memory : List ℕ) (v u : State) (cache : CacheValue) (line : ℕ) (access : Access) → Carries job memory v → IsAccessTo v.shape.memory access → line ≡ line_of v.shape access.address →
     permits (kind_of access.op) (mode_of line (held_of v.cache.lines)) ≡ true → u ≡ performed access v → cache ≡ record u.cache { lines = touched line u.cache.lines } →
     StandsFor job (after_effect job.shape v.slot (Memory access) (with_memory memory v)) (record u { cache = cache })
 access_hits job memory v u cache line access s is at granted done front =
     let same : line ≡ line_of job.shape access.address = at ∙ ap (λ (g : Geometry). line_of g access.address) s.shape in
     subst (StandsFor job (after_effect job.shape v.slot (Memory access) (with_memory memory v))) (sym (hit_is line access v u cache done front ∙ ap (λ (l : ℕ). hit_state l access v) same))
-    (hits job memory v v.slot access s (word_of_job job memory v access s is) (sym (ap (λ (l : ℕ). permits (kind_of access.op) (mode_of l (held_of v.cache.lines))) same) ∙ granted))
+    (hits job memory v v.slot access s (within_job job memory v access s is) (sym (ap (λ (l : ℕ). permits (kind_of access.op) (mode_of l (held_of v.cache.lines))) same) ∙ granted))
 
-pub access_misses : (job : JobValue) (memory : List ℕ) (v u : State) (line : ℕ) (access : Access) → Carries job memory v → HoldsEachOnce (held_of v.cache.lines) → IsWordAccess v.shape.memory access → line ≡ line_of v.shape access.address →
+pub access_misses : (job : JobValue) (memory : List ℕ) (v u : State) (line : ℕ) (access : Access) → Carries job memory v → HoldsEachOnce (held_of v.cache.lines) → IsAccessTo v.shape.memory access → line ≡ line_of v.shape access.address →
     permits (kind_of access.op) (mode_of line (held_of v.cache.lines)) ≡ false → u ≡ wanting access line v → StandsFor job (after_effect job.shape v.slot (Memory access) (with_memory memory v)) u
 access_misses job memory v u line access s once is at denied done =
     let same : line ≡ line_of job.shape access.address = at ∙ ap (λ (g : Geometry). line_of g access.address) s.shape in
     subst (StandsFor job (after_effect job.shape v.slot (Memory access) (with_memory memory v))) (sym (done ∙ ap (λ (l : ℕ). wanting access l v) same))
-    (misses job memory v v.slot access s refl once (word_of_job job memory v access s is) (sym (ap (λ (l : ℕ). permits (kind_of access.op) (mode_of l (held_of v.cache.lines))) same) ∙ denied))
+    (misses job memory v v.slot access s refl once (within_job job memory v access s is) (sym (ap (λ (l : ℕ). permits (kind_of access.op) (mode_of l (held_of v.cache.lines))) same) ∙ denied))
 
 -- ---- an instruction
 

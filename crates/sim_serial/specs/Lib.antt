@@ -1,5 +1,4 @@
 pub mod Words
-pub mod Fetched
 pub mod Rows
 pub mod Agrees
 pub mod State

@@ -1,8 +1,9 @@
 -- A state stands for the written machine of one core.
 use Rattle.std.specs.Prelude.{◌≡◌, ◌⊎◌, ℕ, ◌+◌, ◌*◌, ◌%◌, ◌^◌, ◌<◌, ◌≤◌, List, [], length, Some, None}
+use Rattle.std.specs.List.{All}
 use Rattle.pmsi_model.specs.declared.Want.{Want}
 use Rattle.pmsi_model.specs.Geometry.{IsGeometry, line_of}
-use Rattle.pmsi_model.specs.Access.{kind_of}
+use Rattle.pmsi_model.specs.Access.{kind_of, width_of}
 use Rattle.pmsi_model.specs.Job.{JobValue, IsJob, text_of}
 use Rattle.pmsi_model.specs.Coherent.{HoldsEachOnce}
 use Rattle.pmsi_model.specs.Machine.{mode_of}
@@ -13,12 +14,12 @@ use Rattle.cache_array.specs.declared.line.CachedLine.{CachedLine}
 use Rattle.cache_array.specs.Cache.{Holds as IsHeld, held_of, words_of}
 use Rattle.sim_serial.specs.declared.state.State.{State}
 use Rattle.sim_serial.specs.Agrees.{Agrees}
-use Rattle.sim_serial.specs.Fetched.{IsWordAccess}
+use Rattle.rv_exec.specs.Effects.{IsAccessTo}
 use Rattle.sim_serial.specs.State.{core_of}
 
--- a want for an access to a word of its line, which isn't posted
-pub record IsWordWant (job : JobValue) (want : Want) : Type 0 where
-  pub access : IsWordAccess job.shape.memory want.access
+-- a want for an access to its line, which isn't posted
+pub record IsWantOf (job : JobValue) (want : Want) : Type 0 where
+  pub access : IsAccessTo job.shape.memory want.access
   pub line : want.line ≡ line_of job.shape want.access.address
   pub kind : want.kind ≡ kind_of want.access.op
   pub unposted : want.post ≡ None
@@ -35,9 +36,10 @@ pub record Carries (job : JobValue) (memory : List ℕ) (v : State) : Type 0 whe
   pub cache : v.cache.shape ≡ job.shape
   pub text : v.text ≡ text_of job 0
   pub bytes : length memory ≡ job.shape.memory
+  pub below : All (λ byte. byte < 256) memory
   pub words : 4 * length v.memory ≡ job.shape.memory
   pub agree : CopiesAgree job memory v.cache.lines v.memory
-  pub want : (want : Want) → v.want ≡ Some want → IsWordWant job want
+  pub want : (want : Want) → v.want ≡ Some want → IsWantOf job want
 
 -- the core of a state, and a memory
 abbrev pub with_memory : List ℕ → State → Context
@@ -101,7 +103,7 @@ pub record CanServe (want : Want) (v : State) : Type 0 where
   pub same : v.cache.shape ≡ v.shape
   pub within : (want.line + 1) * v.shape.line_words ≤ length v.memory
   pub room : IsHeld want.line v.cache.lines ⊎ (length (set_lines v.shape want.line (held_of v.cache.lines)) < v.shape.ways)
-  pub aligned : want.access.address % 4 ≡ 0
+  pub aligned : want.access.address % width_of want.access.op ≡ 0
   pub line : want.line ≡ line_of v.shape want.access.address
   pub retired : v.retired + 1 < 2 ^ 64
   pub rows : length v.rows.rows < v.rows.room

@@ -2,8 +2,6 @@
 use Rattle.std.specs.Prelude.{◌≡◌, ℕ, ◌+◌, ◌*◌, ◌/◌, ◌≤◌, length, List, [], ◌∷◌, ◌++◌, take, drop, not, ◌&&◌, ◌||◌, slice_index, Option, Some, None, is_some, is_none, if◌then◌else◌}
 use Rattle.std.specs.Option.{option_map}
 use Rattle.pmsi_model.specs.declared.Access.{Access}
-use Rattle.pmsi_model.specs.declared.AccessOp.{AccessOp}
-use Rattle.pmsi_model.specs.declared.AccessOp.TheVariants.{Load, Store, Amo}
 use Rattle.pmsi_model.specs.declared.Kind.{Kind}
 use Rattle.pmsi_model.specs.declared.Kind.TheVariants.{Read, Write}
 use Rattle.pmsi_model.specs.declared.Mode.{Mode}
@@ -11,13 +9,15 @@ use Rattle.pmsi_model.specs.declared.Mode.TheVariants.{Shared, Modified}
 use Rattle.pmsi_model.specs.declared.Turn.TheVariants.{Request as RequestTurn, WriteBack as WriteBackTurn}
 use Rattle.pmsi_model.specs.declared.Want.{Want}
 use Rattle.pmsi_model.specs.Geometry.{line_of}
-use Rattle.pmsi_model.specs.Access.{kind_of}
+use Rattle.pmsi_model.specs.Words.{number_of}
+use Rattle.pmsi_model.specs.Access.{access_value, kind_of}
+use Rattle.rv_exec.specs.Accesses.{bytes_after, covered}
 use Rattle.pmsi_model.specs.Effect.{with_reg, next_pc}
 use Rattle.pmsi_model.specs.Machine.{CoreState, is_modified, mode_of}
 use Rattle.pmsi_model.specs.Phase.{evicted, victim_of, append_victim}
 use Rattle.pmsi_model.specs.Bus.{can_write_back, is_request_turn, clear_victim}
 use Rattle.cache_array.specs.declared.line.CachedLine.{CachedLine}
-use Rattle.cache_array.specs.Cache.{Holds, held_of, words_of, word_place, others, with_word, put_first}
+use Rattle.cache_array.specs.Cache.{CacheValue, Holds, held_of, words_of, word_place, others, with_word, put_first}
 use Rattle.sim_serial.specs.declared.state.State.{State}
 
 -- the core that a state has
@@ -39,27 +39,28 @@ with_lines lines v = record v { cache = record v.cache { lines = lines } }
 
 -- ---- an access
 
-abbrev pub regs_after : AccessOp → ℕ → ℕ → List ℕ → List ℕ
-regs_after (Load op) rd word regs = with_reg regs rd word
-regs_after (Store op) rd word regs = regs
-regs_after (Amo op) rd word regs = regs
+-- only a write changes the word
+abbrev pub lines_after : Kind → ℕ → ℕ → ℕ → List CachedLine → List CachedLine
+lines_after Read line place word lines = lines
+lines_after Write line place word lines = with_word line place word lines
 
-abbrev pub lines_after : AccessOp → ℕ → ℕ → ℕ → List CachedLine → List CachedLine
-lines_after (Load op) line place operand lines = lines
-lines_after (Store op) line place operand lines = with_word line place operand lines
-lines_after (Amo op) line place operand lines = with_word line place operand lines
+-- the cached word that an access meets
+abbrev pub met_in : Access → CacheValue → ℕ
+met_in access cache = slice_index (words_of (line_of cache.shape access.address) cache.lines) (word_place cache.shape access.address)
+
+-- and the lines once it is done
+abbrev pub lines_with : Access → CacheValue → List CachedLine
+lines_with access cache =
+    lines_after (kind_of access.op) (line_of cache.shape access.address) (word_place cache.shape access.address) (number_of (bytes_after access (met_in access cache))) cache.lines
 
 -- the access is done on the cached line, and its instruction retires
 abbrev pub performed : Access → State → State
-performed access v =
-    let line = line_of v.cache.shape access.address in
-    let place = word_place v.cache.shape access.address in
-    record v {
-      regs = regs_after access.op access.rd (slice_index (words_of line v.cache.lines) place) v.regs;
-      pc = next_pc v.pc;
-      retired = v.retired + 1;
-      cache = record v.cache { lines = lines_after access.op line place access.operand v.cache.lines };
-    }
+performed access v = record v {
+  regs = with_reg v.regs access.rd (access_value access.op (covered access (met_in access v.cache)));
+  pc = next_pc v.pc;
+  retired = v.retired + 1;
+  cache = record v.cache { lines = lines_with access v.cache };
+}
 
 -- ---- a miss
 

@@ -13,11 +13,11 @@ ghost use Rattle.pmsi_model.specs.Words.{number_of};
 
 use crate::memory::Memory;
 use crate::queue::LineQueue;
-use crate::regs::Regs;
 use crate::rows::Rows;
 use crate::state::State;
 use cache_array::CacheArray;
 use pmsi_model::{Geometry, Job, Keep, Mode, NoMemory, OpenRow, Reg, Row, Status, Turn, Words};
+use rv_exec::Regs;
 use std::alloc::Global;
 use std::marker::Model;
 

@@ -7,16 +7,16 @@ ghost use Rattle.pmsi_model.specs.Job.{JobValue, text_of};
 ghost use Rattle.pmsi_model.specs.Phase.{after_effect, can_run, effect_of_word, instruction, permits, set_lines, victim_of};
 ghost use Rattle.pmsi_model.specs.Bus.{clear_victim};
 ghost use Rattle.pmsi_model.specs.Machine.{is_modified, mode_of};
-ghost use Rattle.cache_array.specs.Cache.{Holds, IsCache, held_of, words_of};
+ghost use Rattle.cache_array.specs.Cache.{Holds, IsCache, held_of, word_place, words_of};
 
-use crate::effect::{Effect, effect_of};
 use crate::memory::Memory;
 use crate::queue::LineQueue;
-use crate::regs::Regs;
 use crate::rows::Rows;
 use arrayvec::ArrayVec;
 use cache_array::CacheArray;
 use pmsi_model::{Access, AccessOp, Geometry, Halt, Kind, Mode, Row, Status, Turn, Want, Words};
+use rv_decode::decode;
+use rv_exec::{Effect, Regs, apply, exec};
 
 #[derive(Drop)]
 pub struct State {
@@ -39,9 +39,10 @@ pub struct State {
 }
 
 impl State {
-    ghost use Rattle.sim_serial.specs.Fetched.{IsWordAccess};
+    ghost use Rattle.rv_exec.specs.Effects.{IsAccessTo};
+    ghost use Rattle.pmsi_model.specs.Access.{kind_of, width_of};
     ghost use Rattle.sim_serial.specs.Stands.{CanExecute, CanServe, Carries, IsAt, IsPhaseDone, stepped, IsAtSome, IsInPhase, SameRun, StandsFor, with_memory};
-    ghost use Rattle.sim_serial.specs.State.{core_of, due, fetched, mode_for, performed, served, wanting, with_room, gone_for, flushed, back_to, word_in, CanFlush};
+    ghost use Rattle.sim_serial.specs.State.{core_of, due, fetched, lines_after, mode_for, with_lines, performed, served, wanting, with_room, gone_for, flushed, back_to, word_in, CanFlush};
 
     fn can_run(&self) -> bool
         ensures { result ≡ can_run (core_of self.now) }
@@ -52,21 +53,36 @@ impl State {
         }
     }
 
-    /// Does an access on the cached line, and retires its instruction.
+    /// The cached word after an access; one that reads leaves it.
+    fn leave(&mut self, op: AccessOp, address: u32, word: u32)
+        requires aligned { address % 4 ≡ 0 }
+        requires held { Holds (line_of self.old.cache.shape address) self.old.cache.lines }
+        ensures { self.new ≡ with_lines (lines_after (kind_of op) (line_of self.old.cache.shape address) (word_place self.old.cache.shape address) word self.old.cache.lines) self.old }
+    {
+        match op {
+            AccessOp::Load(_) => {}
+            AccessOp::Store(_) | AccessOp::Amo(_) => self.cache.write_word(address, word),
+        }
+    }
+
+    /// Does an access on the word of the cached line, and retires its instruction.
     fn perform(&mut self, access: Access)
-        requires aligned { access.address % 4 ≡ 0 }
+        requires aligned { access.address % width_of access.op ≡ 0 }
+        requires shape { IsGeometry self.old.cache.shape }
         requires held { Holds (line_of self.old.cache.shape access.address) self.old.cache.lines }
         requires room { self.old.retired + 1 < 2 ^ 64 }
         ensures { self.new ≡ performed access self.old }
     {
-        match access.op {
-            AccessOp::Load(_) => self
-                .regs
-                .set(access.rd, self.cache.read_word(access.address)),
-            AccessOp::Store(_) | AccessOp::Amo(_) => self
-                .cache
-                .write_word(access.address, access.operand),
-        }
+        let Access {
+            op,
+            rd,
+            address,
+            ..
+        } = access;
+        let word = address - address % 4;
+        let applied = apply(access, self.cache.read_word(word));
+        self.regs.set(rd, applied.rd_value);
+        self.leave(op, word, applied.new_word);
         self.pc = self.pc.wrapping_add(4);
         self.retired += 1;
     }
@@ -127,7 +143,7 @@ impl State {
     /// Does an access at once where it has permission; else the core gets a want.
     fn access(&mut self, access: Access)
         requires ready { CanExecute self.old }
-        requires word { IsWordAccess self.old.shape.memory access }
+        requires within { IsAccessTo self.old.shape.memory access }
         ensures same { SameRun self.old self.new }
         ensures stands { (job : JobValue) (memory : List ℕ) → Carries job memory self.old → StandsFor job (after_effect job.shape self.old.slot (MemoryEffect access) (with_memory memory self.old)) self.new }
     {
@@ -146,7 +162,11 @@ impl State {
         ensures same { SameRun self.old self.new }
         ensures stands { (job : JobValue) (memory : List ℕ) → Carries job memory self.old → StandsFor job (after_effect job.shape self.old.slot (effect_of_word job.shape word (core_of self.old) (instr_of word)) (with_memory memory self.old)) self.new }
     {
-        match effect_of(word, &mut self.regs, self.pc, self.shape.memory) {
+        let Some(instr) = decode(word) else {
+            self.status = Status::Halted(Halt::Illegal(word));
+            return;
+        };
+        match exec(instr, &mut self.regs, self.pc, self.shape.memory) {
             Effect::Next(pc) => {
                 self.pc = pc;
                 self.retired += 1;

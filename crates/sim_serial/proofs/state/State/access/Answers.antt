@@ -10,9 +10,9 @@ touch-requires c = λ none. granted_held c.kind.result _ (sym c.permits.ensures 
     (ap (mode_of c.line_of-line.result) (sym (ap (λ v. held_of v.cache.lines) c.perform.ensures ∙ performed_held c.args.access c.args.self.now)) ∙ none)
 
 pub returns-then-permits-clause-stands : goal.returns-then-permits-clause-stands
-returns-then-permits-clause-stands c = λ job memory s. access_hits job memory c.args.self.now c.perform.new.self c.touch.new.self c.line_of-line.result c.args.access s c.requires.word c.line_of-line.ensures
+returns-then-permits-clause-stands c = λ job memory s. access_hits job memory c.args.self.now c.perform.new.self c.touch.new.self c.line_of-line.result c.args.access s c.requires.within c.line_of-line.ensures
     (ap (λ k. permits k (mode_of c.line_of-line.result (held_of c.args.self.now.cache.lines))) (sym c.kind.ensures) ∙ sym c.permits.ensures ∙ c.if-permits.true) c.perform.ensures c.touch.ensures.after
 
 pub returns-else-permits-clause-stands : goal.returns-else-permits-clause-stands
-returns-else-permits-clause-stands c = λ job memory s. access_misses job memory c.args.self.now c.miss.new.self c.line_of-line.result c.args.access s c.requires.ready.once c.requires.word c.line_of-line.ensures
+returns-else-permits-clause-stands c = λ job memory s. access_misses job memory c.args.self.now c.miss.new.self c.line_of-line.result c.args.access s c.requires.ready.once c.requires.within c.line_of-line.ensures
     (ap (λ k. permits k (mode_of c.line_of-line.result (held_of c.args.self.now.cache.lines))) (sym c.kind.ensures) ∙ sym c.permits.ensures ∙ c.if-permits.false) c.miss.ensures

@@ -1,0 +1,4 @@
+pub mod FormatFields
+pub mod Rows
+pub mod Encoded
+pub mod Table
