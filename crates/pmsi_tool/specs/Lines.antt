@@ -1,7 +1,10 @@
 -- The lines that are told on `err`.
-use Rattle.std.specs.Prelude.{ℕ, List, ◌++◌, codes}
+use Rattle.std.specs.Prelude.{ℕ, List, ◌++◌, codes, decimal}
+use Rattle.pmsi_model.specs.Lines.{hex_word}
+use Rattle.image_file.specs.declared.fault.ImageFault.{ImageFault}
+use Rattle.image_file.specs.declared.fault.ImageFault.TheVariants.{Short, Magic, Limit, Range, Order, Extra, NoMemory as NoMemoryForImage}
 use Rattle.pmsi_tool.specs.declared.complaint.Refusal.{Refusal}
-use Rattle.pmsi_tool.specs.declared.complaint.Refusal.TheVariants.{Large, NotBuilt}
+use Rattle.pmsi_tool.specs.declared.complaint.Refusal.TheVariants.{Large, NotBuilt, NoImage}
 use Rattle.pmsi_tool.specs.declared.complaint.Complaint.{Complaint}
 use Rattle.pmsi_tool.specs.declared.complaint.Complaint.TheVariants.{Usage, ReadFault, Refused, NoMemory}
 
@@ -17,9 +20,20 @@ write_fault_line = codes "write fault\n"
 abbrev pub no_memory_line : List ℕ
 no_memory_line = codes "no memory\n"
 
+-- the first check of an image that fails: what is needed and what there is, a number, an address, a piece's number, a place
+abbrev pub fault_text : ImageFault → List ℕ
+fault_text (Short needed have) = codes "short " ++ decimal needed ++ codes " " ++ decimal have
+fault_text Magic = codes "magic"
+fault_text (Limit count) = codes "limit " ++ decimal count
+fault_text (Range address) = codes "range " ++ hex_word address
+fault_text (Order piece) = codes "order " ++ decimal piece
+fault_text (Extra place) = codes "extra " ++ decimal place
+fault_text NoMemoryForImage = codes "no memory"
+
 abbrev pub detail_of : Refusal → List ℕ
 detail_of Large = codes "large"
 detail_of NotBuilt = codes "not built"
+detail_of (NoImage fault) = fault_text fault
 
 abbrev pub refused_line : Refusal → List ℕ
 refused_line refusal = codes "refused: input: " ++ detail_of refusal ++ codes "\n"

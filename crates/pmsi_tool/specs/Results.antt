@@ -1,7 +1,8 @@
--- What the file that the words of a call name gives: a listing, or a refusal.
+-- What the file that the words of a call name gives: a result, or a refusal.
 use Rattle.std.specs.Prelude.{◌≡◌, ℕ, ◌<◌, ◌≤◌, ⊤, List, length, Option, Some, IsSomeAnd}
 use Rattle.pmsi_model.specs.declared.limits.TheConstants.{MAX_FILE_BYTES}
 use Rattle.pmsi_model.specs.Job.{JobValue}
+use Rattle.pmsi_model.specs.Image.{ImageValue}
 use Rattle.pmsi_model.specs.Run.{machine_at}
 use Rattle.pmsi_model.specs.Listing.{listing_of}
 use Rattle.pmsi_model.specs.Coherent.{IsCoherent}
@@ -9,11 +10,15 @@ use Rattle.pmsi_model.specs.Latest.{ReadsLatestWrite}
 use Rattle.pmsi_model.specs.Waiting.{WaitsAreBounded}
 use Rattle.pmsi_outside.specs.Files.{Contents, Tells}
 use Rattle.job_text.specs.JobText.{IsTextOf}
+use Rattle.image_file.specs.Format.{IsBytesOf, image_bytes}
+use Rattle.image_file.specs.Checks.{HasFault}
+use Rattle.pmsi_tool.specs.declared.words.Command.{Command}
+use Rattle.pmsi_tool.specs.declared.words.Command.TheVariants.{Run, Image}
 use Rattle.pmsi_tool.specs.declared.complaint.Refusal.{Refusal}
-use Rattle.pmsi_tool.specs.declared.complaint.Refusal.TheVariants.{Large, NotBuilt}
+use Rattle.pmsi_tool.specs.declared.complaint.Refusal.TheVariants.{Large, NotBuilt, NoImage}
 use Rattle.pmsi_tool.specs.declared.complaint.Complaint.{Complaint}
 use Rattle.pmsi_tool.specs.declared.complaint.Complaint.TheVariants.{Usage, ReadFault, Refused, NoMemory}
-use Rattle.pmsi_tool.specs.Words.{IsRunOf}
+use Rattle.pmsi_tool.specs.Words.{IsCommand}
 
 -- the bytes are the text of this job, which is accepted, and the text is its listing
 pub record IsListingOf (job : JobValue) (held text : List ℕ) : Type 0 where
@@ -21,14 +26,24 @@ pub record IsListingOf (job : JobValue) (held text : List ℕ) : Type 0 where
   pub job_text : IsTextOf job held
   pub listing : text ≡ listing_of job
 
--- the bytes are accepted, and the text is the listing that they give
-abbrev pub IsListed : List ℕ → List ℕ → Type 0
-IsListed held text = (job : JobValue) × IsListingOf job held text
+-- the bytes are those of this image, and the text is its bytes
+pub record IsImageOf (image : ImageValue) (held text : List ℕ) : Type 0 where
+  pub within : length held ≤ MAX_FILE_BYTES
+  pub bytes : IsBytesOf image held
+  pub written : text ≡ image_bytes image
 
--- why the bytes are refused
-abbrev pub IsRefused : List ℕ → Refusal → Type 0
-IsRefused held Large = MAX_FILE_BYTES < length held
-IsRefused held NotBuilt = (length held ≤ MAX_FILE_BYTES) × ((job : JobValue) → IsTextOf job held → ⊥)
+-- the bytes are accepted, and the text is the result of the command
+abbrev pub IsResultOf : Command → List ℕ → List ℕ → Type 0
+IsResultOf Run held text = (job : JobValue) × IsListingOf job held text
+IsResultOf Image held text = (image : ImageValue) × IsImageOf image held text
+
+-- why a command refuses the bytes
+abbrev pub IsRefused : Refusal → Command → List ℕ → Type 0
+IsRefused Large command held = MAX_FILE_BYTES < length held
+IsRefused NotBuilt Run held = (length held ≤ MAX_FILE_BYTES) × ((job : JobValue) → IsTextOf job held → ⊥)
+IsRefused NotBuilt Image held = ⊥
+IsRefused (NoImage fault) Run held = ⊥
+IsRefused (NoImage fault) Image held = (length held ≤ MAX_FILE_BYTES) × HasFault held fault
 
 -- what holds of the written machine of a job, up to its slots: it is coherent at every slot boundary, every read takes the
 -- latest write in bus order, and what is left for a request and its age are within the bound together
@@ -45,27 +60,29 @@ Reads contents name held = Tells contents name (λ told. told ≡ held)
 abbrev pub Holds : Option Contents → List ℕ → List ℕ → Type 0
 Holds contents name held = IsSomeAnd contents (λ told. told name ≡ Some held)
 
--- the words name a file whose bytes give this text: the listing of a job whose machine is faithful
-pub record Lists (words : List (List ℕ)) (contents : Option Contents) (text : List ℕ) : Type 0 where
+-- the words name a command and a file for whose bytes the text is the result; where that is the run of a job, its machine
+-- is faithful
+pub record Gives (words : List (List ℕ)) (contents : Option Contents) (text : List ℕ) : Type 0 where
+  pub command : Command
   pub name : List ℕ
   pub held : List ℕ
-  pub job : JobValue
-  pub run : IsRunOf words name
+  pub asked : IsCommand words command name
   pub reads : Reads contents name held
-  pub listed : IsListingOf job held text
-  pub faithful : IsFaithful job
+  pub is_result : IsResultOf command held text
+  pub faithful : (job : JobValue) → command ≡ Run → IsTextOf job held → IsFaithful job
 
--- the words name a file whose bytes are refused
+-- the words name a command that refuses the bytes of its file
 pub record Refuses (words : List (List ℕ)) (contents : Option Contents) (refusal : Refusal) : Type 0 where
+  pub command : Command
   pub name : List ℕ
   pub held : List ℕ
-  pub run : IsRunOf words name
+  pub asked : IsCommand words command name
   pub reads : Reads contents name held
-  pub refused : IsRefused held refusal
+  pub refused : IsRefused refusal command held
 
--- a complaint that these bytes can give
-abbrev pub RefusesAt : List ℕ → Complaint → Type 0
-RefusesAt held Usage = ⊥
-RefusesAt held ReadFault = ⊥
-RefusesAt held (Refused refusal) = IsRefused held refusal
-RefusesAt held NoMemory = ⊤
+-- a complaint that a command can have of these bytes
+abbrev pub RefusesAt : Command → List ℕ → Complaint → Type 0
+RefusesAt command held Usage = ⊥
+RefusesAt command held ReadFault = ⊥
+RefusesAt command held (Refused refusal) = IsRefused refusal command held
+RefusesAt command held NoMemory = ⊤

@@ -1,12 +1,14 @@
 //! The answer to a call, before anything is written.
 ghost use Rattle.std.specs.Prelude.{◌≡◌, ◌≤◌, ℕ, List, map, length, string_bytes, false, IfOk, IfErr};
 ghost use Rattle.pmsi_model.specs.declared.limits.TheConstants.{MAX_FILE_BYTES};
-ghost use Rattle.pmsi_tool.specs.Results.{Reads, IsListed, Lists, RefusesAt};
+ghost use Rattle.pmsi_tool.specs.declared.words.Command.TheVariants.{Run, Image};
+ghost use Rattle.pmsi_tool.specs.Results.{Gives, IsResultOf, Reads, RefusesAt};
 ghost use Rattle.pmsi_tool.specs.Statuses.{Stands, StandsAt};
 ghost use Rattle.pmsi_model.specs.Listing.{listing_of};
 
 use crate::complaint::{Complaint, Refusal};
-use crate::words::run_name;
+use crate::words::{Command, command_of};
+use image_file::{ImageFault, read_image, write_image};
 use job_text::{JobFault, read_job};
 use listing::listing;
 use pmsi_model::{Job, Keep, NoMemory};
@@ -20,16 +22,28 @@ pub(crate) fn answer_of<F: Files>(
     words: &[String],
     files: &mut F,
 ) -> Result<Vec<u8>, Complaint>
-    ensures text { IfOk result (λ text. Lists (map string_bytes words.now) (F.contents files.old) text.items) }
+    ensures text { IfOk result (λ text. Gives (map string_bytes words.now) (F.contents files.old) text.items) }
     ensures complaint { IfErr result (λ complaint. Stands (map string_bytes words.now) (F.contents files.old)
         (F.faults files.old) (F.faults files.new) (F.blamed files.new) complaint) }
     ensures contents { F.contents files.new ≡ F.contents files.old }
 {
-    let Some(name) = run_name(words) else {
+    let Some((command, name)) = command_of(words) else {
         return Err(Complaint::Usage);
     };
     let bytes = read_named(alloc, files, name)?;
-    run_text(alloc, bytes.as_slice())
+    result_of(alloc, command, bytes.as_slice())
+}
+
+/// The result of a command on these bytes.
+fn result_of(alloc: Global, command: Command, bytes: &[u8]) -> Result<Vec<u8>, Complaint>
+    requires { length bytes.now ≤ MAX_FILE_BYTES }
+    ensures text { IfOk result (λ text. IsResultOf command bytes.now text.items) }
+    ensures complaint { IfErr result (λ complaint. RefusesAt command bytes.now complaint) }
+{
+    match command {
+        Command::Run => run_text(alloc, bytes),
+        Command::Image => image_bytes(alloc, bytes),
+    }
 }
 
 /// The bytes of the file of this name.
@@ -53,8 +67,8 @@ fn read_named<F: Files>(alloc: Global, files: &mut F, name: &str) -> Result<Vec<
 /// The listing of the job that these bytes are the text of.
 fn run_text(alloc: Global, bytes: &[u8]) -> Result<Vec<u8>, Complaint>
     requires { length bytes.now ≤ MAX_FILE_BYTES }
-    ensures text { IfOk result (λ text. IsListed bytes.now text.items) }
-    ensures complaint { IfErr result (λ complaint. RefusesAt bytes.now complaint) }
+    ensures text { IfOk result (λ text. IsResultOf Run bytes.now text.items) }
+    ensures complaint { IfErr result (λ complaint. RefusesAt Run bytes.now complaint) }
 {
     let job = match read_job(alloc, bytes) {
         Ok(job) => job,
@@ -63,6 +77,23 @@ fn run_text(alloc: Global, bytes: &[u8]) -> Result<Vec<u8>, Complaint>
     };
     match run_job(alloc, &job) {
         Ok(text) => Ok(text),
+        Err(NoMemory) => Err(Complaint::NoMemory),
+    }
+}
+
+/// The bytes of the image whose bytes these are.
+fn image_bytes(alloc: Global, bytes: &[u8]) -> Result<Vec<u8>, Complaint>
+    requires { length bytes.now ≤ MAX_FILE_BYTES }
+    ensures text { IfOk result (λ text. IsResultOf Image bytes.now text.items) }
+    ensures complaint { IfErr result (λ complaint. RefusesAt Image bytes.now complaint) }
+{
+    let image = match read_image(alloc, bytes) {
+        Ok(image) => image,
+        Err(ImageFault::NoMemory) => return Err(Complaint::NoMemory),
+        Err(fault) => return Err(Complaint::Refused(Refusal::NoImage(fault))),
+    };
+    match write_image(alloc, &image) {
+        Ok(bytes) => Ok(bytes),
         Err(NoMemory) => Err(Complaint::NoMemory),
     }
 }

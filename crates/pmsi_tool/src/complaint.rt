@@ -1,6 +1,7 @@
 //! What is told on `err`.
 ghost use Rattle.std.specs.Prelude.{◌≡◌};
 
+use image_file::ImageFault;
 use pmsi_model::NoMemory;
 
 /// Why the file that the words name gives no result.
@@ -10,6 +11,8 @@ pub enum Refusal {
     Large,
     /// It is no text of a job, in the form that is read so far.
     NotBuilt,
+    /// It is no image: the first check that fails.
+    NoImage(ImageFault),
 }
 
 /// An answer that is told on `err` by its line.

@@ -1,13 +1,14 @@
-//! The program's commands as one call: words, files and two sinks go in, and a status comes out. So far there is the
-//! command `run NAME`.
+//! The program's commands as one call: words, files and two sinks go in, and a status comes out. So far there are the
+//! commands `run NAME` and `image NAME`.
 #![tactic(auto)]
 
 ghost use Rattle.std.specs.Prelude.{◌≡◌, ◌≢◌, ◌⊎◌, ℕ, List, map, string_bytes};
 ghost use Rattle.std.specs.Io.KnownBytes.{Appends};
 ghost use Rattle.pmsi_outside.specs.Causes.{Rose};
 ghost use Rattle.pmsi_tool.specs.declared.complaint.Refusal.{Refusal};
-ghost use Rattle.pmsi_tool.specs.Words.{IsRunOf};
-ghost use Rattle.pmsi_tool.specs.Results.{Holds, IsListed, IsRefused, Lists, Refuses};
+ghost use Rattle.pmsi_tool.specs.declared.words.Command.{Command};
+ghost use Rattle.pmsi_tool.specs.Words.{IsCommand};
+ghost use Rattle.pmsi_tool.specs.Results.{Gives, Holds, IsRefused, IsResultOf, Refuses};
 ghost use Rattle.pmsi_tool.specs.Statuses.{IsReadFault, OutFails, ErrFails};
 ghost use Rattle.pmsi_tool.specs.Lines.{usage_line, read_fault_line, refused_line, no_memory_line};
 
@@ -21,6 +22,7 @@ pub use complaint::{Complaint, Refusal};
 use pmsi_outside::{Files, Sink};
 use std::alloc::Global;
 use tell::{complain, write_text};
+pub use words::Command;
 
 #[cfg(test)]
 mod tests;
@@ -45,12 +47,12 @@ pub fn tool<F: Files, O: Sink, E: Sink>(
     out: &mut O,
     err: &mut E,
 ) -> ToolStatus
-    // The listing of the job that the words name was written, and the machine of this job is faithful.
+    // The result of the command was written; where a job was run, its machine is faithful.
     ensures done { result ≡ ToolStatus.Done → (text : List ℕ)
-        × Lists (map string_bytes words.now) (F.contents files.old) text
+        × Gives (map string_bytes words.now) (F.contents files.old) text
         × Appends (O.held out.old) (O.held out.new) text }
     ensures done_silent { result ≡ ToolStatus.Done → err.new ≡ err.old }
-    ensures usage { result ≡ ToolStatus.Usage → ((name : List ℕ) → IsRunOf (map string_bytes words.now) name → ⊥)
+    ensures usage { result ≡ ToolStatus.Usage → ((command : Command) (name : List ℕ) → IsCommand (map string_bytes words.now) command name → ⊥)
         × Appends (E.held err.old) (E.held err.new) usage_line }
     ensures read_fault { result ≡ ToolStatus.ReadFault →
         IsReadFault (map string_bytes words.now) (F.faults files.old) (F.faults files.new) (F.blamed files.new)
@@ -66,13 +68,13 @@ pub fn tool<F: Files, O: Sink, E: Sink>(
         × ErrFails (map string_bytes words.now) (F.contents files.old) (F.faults files.old) (F.faults files.new) (F.blamed files.new)
         (E.faults err.old) (E.faults err.new) (E.held err.old) (E.held err.new)) }
     ensures untouched { result ≢ ToolStatus.Done → result ≢ ToolStatus.WriteFault → out.new ≡ out.old }
-    // An accepted job is never refused.
-    ensures complete { (name held text : List ℕ) → IsRunOf (map string_bytes words.now) name → Holds (F.contents files.old) name held
-        → IsListed held text
+    // An accepted file is never refused.
+    ensures complete { (command : Command) (name held text : List ℕ) → IsCommand (map string_bytes words.now) command name
+        → Holds (F.contents files.old) name held → IsResultOf command held text
         → (result ≡ ToolStatus.Done) ⊎ ((result ≡ ToolStatus.NoMemory) ⊎ ((result ≡ ToolStatus.ReadFault) ⊎ (result ≡ ToolStatus.WriteFault))) }
     // Where a refusal has its cause and nothing fails, it comes.
-    ensures refused_always { (name held : List ℕ) (refusal : Refusal) → IsRunOf (map string_bytes words.now) name
-        → Holds (F.contents files.old) name held → IsRefused held refusal
+    ensures refused_always { (command : Command) (name held : List ℕ) (refusal : Refusal) → IsCommand (map string_bytes words.now) command name
+        → Holds (F.contents files.old) name held → IsRefused refusal command held
         → (Rose (F.faults files.old) (F.faults files.new) → ⊥) → (Rose (O.faults out.old) (O.faults out.new) → ⊥)
         → (Rose (E.faults err.old) (E.faults err.new) → ⊥)
         → (result ≡ ToolStatus.Refused) ⊎ (result ≡ ToolStatus.NoMemory) }

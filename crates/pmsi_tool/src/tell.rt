@@ -3,12 +3,13 @@ ghost use Rattle.std.specs.Prelude.{◌≡◌, ◌≢◌, ◌⊎◌, ◌++◌, c
 ghost use Rattle.std.specs.Io.KnownBytes.{Appends};
 ghost use Rattle.pmsi_outside.specs.Causes.{Rose};
 ghost use Rattle.pmsi_outside.specs.Sink.{AppendsPart};
-ghost use Rattle.pmsi_tool.specs.Lines.{detail_of, line_of, refused_line, write_fault_line};
+ghost use Rattle.pmsi_tool.specs.Lines.{detail_of, fault_text, line_of, refused_line, write_fault_line};
 ghost use Rattle.pmsi_tool.specs.Statuses.{IsTold, LeavesFront, Tells};
 
 use crate::ToolStatus;
 use crate::complaint::{Complaint, Refusal};
-use listing::push_text;
+use image_file::ImageFault;
+use listing::{push_field, push_hex_field, push_text};
 use pmsi_outside::{Sink, write_whole};
 use std::alloc::{AllocError, Global};
 
@@ -73,6 +74,24 @@ fn push_detail(line: &mut Vec<u8>, refusal: Refusal) -> Result<(), AllocError>
     match refusal {
         Refusal::Large => push_text(line, "large"),
         Refusal::NotBuilt => push_text(line, "not built"),
+        Refusal::NoImage(fault) => push_fault(line, fault),
+    }
+}
+
+fn push_fault(line: &mut Vec<u8>, fault: ImageFault) -> Result<(), AllocError>
+    ensures { OnOk result (line.new.items ≡ line.old.items ++ fault_text fault) }
+{
+    match fault {
+        ImageFault::Short(needed, have) => {
+            push_field(line, "short ", needed.into())?;
+            push_field(line, " ", have.into())
+        }
+        ImageFault::Magic => push_text(line, "magic"),
+        ImageFault::Limit(count) => push_field(line, "limit ", count.into()),
+        ImageFault::Range(address) => push_hex_field(line, "range ", address),
+        ImageFault::Order(piece) => push_field(line, "order ", piece.into()),
+        ImageFault::Extra(place) => push_field(line, "extra ", place.into()),
+        ImageFault::NoMemory => push_text(line, "no memory"),
     }
 }
 

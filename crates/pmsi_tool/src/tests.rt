@@ -1,6 +1,7 @@
 use super::*;
 use pmsi_outside::{MemoryFiles, MemorySink, SteadyFiles};
 use std::alloc::{AllocError, Global};
+use std::process::Abort;
 use std::test::Fail;
 
 const HEADS: &str = "pmsi 1\ncores 1\nquantum 1\nline 4\nsets 1\nways 1\nmemory 64\nslots 4\n";
@@ -125,48 +126,68 @@ fn run(alloc: Global, bytes: Vec<u8>, texts: &[&str]) -> Result<Ran, AllocError>
     call(alloc, texts, &mut files, out, err)
 }
 
-/// Whether this job gives exactly this listing.
-fn lists(alloc: Global, heads: &str, line: &str, text: &str) -> Result<bool, AllocError> {
-    let ran = run(alloc, job(alloc, heads, line)?, &["run", "a.job"])?;
-    Ok(
-        ran.status == ToolStatus::Done
-            && ran.out.bytes() == text.as_bytes()
-            && ran.err.bytes().is_empty(),
-    )
+/// A command on these bytes ends well, and writes exactly this.
+fn writes(
+    rt: &impl Abort,
+    alloc: Global,
+    command: &str,
+    bytes: Vec<u8>,
+    text: &[u8],
+) -> Result<(), AllocError> {
+    let ran = run(alloc, bytes, &[command, "a.job"])?;
+    assert_eq!(rt; ran.status, ToolStatus::Done);
+    assert_eq!(rt; ran.out.bytes(), text);
+    assert!(rt; ran.err.bytes().is_empty());
+    Ok(())
 }
 
-/// Whether these bytes are refused by exactly this line.
-fn refuses(alloc: Global, bytes: Vec<u8>, line: &str) -> Result<bool, AllocError> {
-    let ran = run(alloc, bytes, &["run", "a.job"])?;
-    Ok(
-        ran.status == ToolStatus::Refused
-            && ran.out.bytes().is_empty()
-            && ran.err.bytes() == line.as_bytes(),
-    )
+/// A job gives exactly this listing.
+fn lists(
+    rt: &impl Abort,
+    alloc: Global,
+    heads: &str,
+    line: &str,
+    text: &str,
+) -> Result<(), AllocError> {
+    writes(rt, alloc, "run", job(alloc, heads, line)?, text.as_bytes())
 }
 
-/// Whether these words are no command.
-fn is_usage(alloc: Global, texts: &[&str]) -> Result<bool, AllocError> {
+/// A command refuses these bytes by exactly this line.
+fn refuses(
+    rt: &impl Abort,
+    alloc: Global,
+    command: &str,
+    bytes: Vec<u8>,
+    line: &str,
+) -> Result<(), AllocError> {
+    let ran = run(alloc, bytes, &[command, "a.job"])?;
+    assert_eq!(rt; ran.status, ToolStatus::Refused);
+    assert!(rt; ran.out.bytes().is_empty());
+    assert_eq!(rt; ran.err.bytes(), line.as_bytes());
+    Ok(())
+}
+
+/// These words are no command.
+fn is_usage(rt: &impl Abort, alloc: Global, texts: &[&str]) -> Result<(), AllocError> {
     let ran = run(alloc, job(alloc, HEADS, STORES)?, texts)?;
-    let line = b"usage: pmsi COMMAND [OPTIONS] ARGUMENTS\n".as_slice();
-    Ok(ran.status == ToolStatus::Usage && ran.out.bytes().is_empty() && ran.err.bytes() == line)
+    assert_eq!(rt; ran.status, ToolStatus::Usage);
+    assert!(rt; ran.out.bytes().is_empty());
+    assert_eq!(rt;
+        ran.err.bytes(),
+        b"usage: pmsi COMMAND [OPTIONS] ARGUMENTS\n".as_slice()
+    );
+    Ok(())
 }
 
 #[test]
 fn runs_a_job(rt: HostRuntime) -> Result<(), Fail> {
     let alloc = rt.alloc();
     let no_slots = "pmsi 1\ncores 1\nquantum 1\nline 4\nsets 1\nways 1\nmemory 64\nslots 0\n";
-    assert!(rt; lists(alloc, HEADS, STORES, STORED)?);
-    assert!(rt; lists(alloc, HEADS, ADDS, ADDED)?);
-    assert!(rt; lists(alloc, no_slots, ADDS, NOT_STARTED)?);
-    assert!(rt;
-        lists(
-            alloc,
-            HEADS,
-            "core 0 hex 00b02023 00b02823 00000073\n",
-            WRITTEN_BACK
-        )?
-    );
+    lists(&rt, alloc, HEADS, STORES, STORED)?;
+    lists(&rt, alloc, HEADS, ADDS, ADDED)?;
+    lists(&rt, alloc, no_slots, ADDS, NOT_STARTED)?;
+    let two_lines = "core 0 hex 00b02023 00b02823 00000073\n";
+    lists(&rt, alloc, HEADS, two_lines, WRITTEN_BACK)?;
     Ok(())
 }
 
@@ -181,9 +202,14 @@ fn heads(alloc: Global, slots: &str) -> Result<String, AllocError> {
     Ok(text)
 }
 
-/// Whether this program, within so many slots and without a request, ends with this pc, these instructions retired and
-/// this status.
-fn ends(alloc: Global, slots: &str, line: &str, end: &str) -> Result<bool, AllocError> {
+/// A program, within so many slots and without a request, ends with this pc, these instructions retired and this status.
+fn ends(
+    rt: &impl Abort,
+    alloc: Global,
+    slots: &str,
+    line: &str,
+    end: &str,
+) -> Result<(), AllocError> {
     let mut text = String::from_str(
         alloc,
         "pmsi listing 1\ncores 1 quantum 1 line 4 sets 1 ways 1 memory 64 slots ",
@@ -193,121 +219,54 @@ fn ends(alloc: Global, slots: &str, line: &str, end: &str) -> Result<bool, Alloc
     text.push_str(end)?;
     text.push_str("\nregs x11=0x00000001\nheld\nwaits 0 count 0 greatest 0 sum 0\nbound 8\nend\n")?;
     let heads = heads(alloc, slots)?;
-    lists(alloc, heads.as_str(), line, text.as_str())
+    lists(rt, alloc, heads.as_str(), line, text.as_str())
 }
 
 /// A jump to no multiple of four halts and writes no register; a branch that isn't taken may have such a target.
 #[test]
 fn jumps_to_multiples_of_four(rt: HostRuntime) -> Result<(), Fail> {
     let alloc = rt.alloc();
-    assert!(rt;
-        ends(
-            alloc,
-            "1",
-            "core 0 hex 006000ef\n",
-            "00000000 retired 0 jump 0x00000006"
-        )?
-    );
-    assert!(rt;
-        ends(
-            alloc,
-            "2",
-            "core 0 hex 00b00363 00000073\n",
-            "00000004 retired 1 exit 0"
-        )?
-    );
+    let jump = "00000000 retired 0 jump 0x00000006";
+    ends(&rt, alloc, "1", "core 0 hex 006000ef\n", jump)?;
+    let passed = "00000004 retired 1 exit 0";
+    ends(&rt, alloc, "2", "core 0 hex 00b00363 00000073\n", passed)?;
     Ok(())
 }
 
 #[test]
 fn halts_where_no_instruction_stands(rt: HostRuntime) -> Result<(), Fail> {
     let alloc = rt.alloc();
-    assert!(rt;
-        ends(
-            alloc,
-            "1",
-            "core 0 hex 00000000\n",
-            "00000000 retired 0 illegal 0x00000000"
-        )?
-    );
-    assert!(rt;
-        ends(
-            alloc,
-            "1",
-            "core 0 hex ffffffff\n",
-            "00000000 retired 0 illegal 0xffffffff"
-        )?
-    );
-    assert!(rt;
-        ends(
-            alloc,
-            "1",
-            "core 0 hex 0000100f\n",
-            "00000000 retired 0 illegal 0x0000100f"
-        )?
-    );
-    assert!(rt;
-        ends(
-            alloc,
-            "1",
-            "core 0 hex 0ff0000f\n",
-            "00000004 retired 1 running"
-        )?
-    );
-    assert!(rt;
-        ends(
-            alloc,
-            "1",
-            "core 0 hex\n",
-            "00000000 retired 0 fetch 0x00000000"
-        )?
-    );
+    let zeros = "00000000 retired 0 illegal 0x00000000";
+    ends(&rt, alloc, "1", "core 0 hex 00000000\n", zeros)?;
+    let ones = "00000000 retired 0 illegal 0xffffffff";
+    ends(&rt, alloc, "1", "core 0 hex ffffffff\n", ones)?;
+    let fence_i = "00000000 retired 0 illegal 0x0000100f";
+    ends(&rt, alloc, "1", "core 0 hex 0000100f\n", fence_i)?;
+    let fence = "00000004 retired 1 running";
+    ends(&rt, alloc, "1", "core 0 hex 0ff0000f\n", fence)?;
+    let nothing = "00000000 retired 0 fetch 0x00000000";
+    ends(&rt, alloc, "1", "core 0 hex\n", nothing)?;
     Ok(())
 }
 
 #[test]
 fn halts_at_wrong_addresses_and_breakpoints(rt: HostRuntime) -> Result<(), Fail> {
     let alloc = rt.alloc();
-    assert!(rt;
-        ends(
-            alloc,
-            "1",
-            "core 0 hex 00202283\n",
-            "00000000 retired 0 misaligned 0x00000002"
-        )?
-    );
-    assert!(rt;
-        ends(
-            alloc,
-            "1",
-            "core 0 hex 04002283\n",
-            "00000000 retired 0 range 0x00000040"
-        )?
-    );
-    assert!(rt;
-        ends(
-            alloc,
-            "1",
-            "core 0 hex 00100073\n",
-            "00000000 retired 0 break"
-        )?
-    );
+    let askew = "00000000 retired 0 misaligned 0x00000002";
+    ends(&rt, alloc, "1", "core 0 hex 00202283\n", askew)?;
+    let beyond = "00000000 retired 0 range 0x00000040";
+    ends(&rt, alloc, "1", "core 0 hex 04002283\n", beyond)?;
+    let ebreak = "00000000 retired 0 break";
+    ends(&rt, alloc, "1", "core 0 hex 00100073\n", ebreak)?;
     Ok(())
 }
 
 /// An AMO whose destination is its operand, with both ordering bits.
 #[test]
 fn swaps_a_register_with_memory(rt: HostRuntime) -> Result<(), Fail> {
-    let alloc = rt.alloc();
-    let heads = heads(alloc, "3")?;
-    assert!(rt;
-        lists(
-            alloc,
-            heads.as_str(),
-            "core 0 hex 00900293 0e5022af 00000073\n",
-            SWAPPED
-        )?
-    );
+    let heads = heads(rt.alloc(), "3")?;
+    let line = "core 0 hex 00900293 0e5022af 00000073\n";
+    lists(&rt, rt.alloc(), heads.as_str(), line, SWAPPED)?;
     Ok(())
 }
 
@@ -316,27 +275,88 @@ fn refuses_two_cores(rt: HostRuntime) -> Result<(), Fail> {
     let alloc = rt.alloc();
     let heads = "pmsi 1\ncores 2\nquantum 1\nline 4\nsets 1\nways 1\nmemory 64\nslots 4\n";
     let bytes = job(alloc, heads, "core 0 hex 00100073\n")?;
-    assert!(rt; refuses(alloc, bytes, "refused: input: not built\n")?);
+    refuses(&rt, alloc, "run", bytes, "refused: input: not built\n")?;
     Ok(())
 }
 
 #[test]
-fn refuses_a_large_file(rt: HostRuntime) -> Result<(), Fail> {
+fn refuses_large_files(rt: HostRuntime) -> Result<(), Fail> {
     let alloc = rt.alloc();
     let bytes = vec![in alloc; 0u8; 16_777_217]?;
-    assert!(rt; refuses(alloc, bytes, "refused: input: large\n")?);
+    refuses(&rt, alloc, "run", bytes, "refused: input: large\n")?;
+    let bytes = vec![in alloc; 0u8; 16_777_217]?;
+    refuses(&rt, alloc, "image", bytes, "refused: input: large\n")?;
+    Ok(())
+}
+
+/// The bytes that an image begins with, and these.
+fn image(alloc: Global, rest: &[u8]) -> Result<Vec<u8>, AllocError> {
+    let mut bytes = b"PMSIIMG1".to_vec(alloc)?;
+    bytes.extend_from_slice(rest)?;
+    Ok(bytes)
+}
+
+/// These bytes behind the first eight are an image's, and are written again.
+fn writes_again(rt: &impl Abort, alloc: Global, rest: &[u8]) -> Result<(), AllocError> {
+    let bytes = image(alloc, rest)?;
+    writes(rt, alloc, "image", image(alloc, rest)?, bytes.as_slice())
+}
+
+/// These bytes behind the first eight are refused by this line.
+fn no_image(rt: &impl Abort, alloc: Global, rest: &[u8], line: &str) -> Result<(), AllocError> {
+    refuses(rt, alloc, "image", image(alloc, rest)?, line)
+}
+
+const THREE_WORDS: &[u8] = b"\x03\0\0\0\0\0\0\0\0\0\0\0\0\0\0\0\0\0\0\0";
+
+/// `addi x5, x0, 7` and `ecall`; three words that are 0; no word, and a piece of one byte at 64.
+#[test]
+fn writes_images_again(rt: HostRuntime) -> Result<(), Fail> {
+    let alloc = rt.alloc();
+    writes_again(&rt, alloc, b"\x02\0\0\0\0\0\0\0\x93\x02\x70\0\x73\0\0\0")?;
+    writes_again(&rt, alloc, THREE_WORDS)?;
+    writes_again(&rt, alloc, b"\0\0\0\0\x01\0\0\0\x40\0\0\0\x01\0\0\0\xff")?;
+    Ok(())
+}
+
+#[test]
+fn refuses_what_is_no_image(rt: HostRuntime) -> Result<(), Fail> {
+    let alloc = rt.alloc();
+    let other = b"PMSIIMG2\0\0\0\0\0\0\0\0".to_vec(alloc)?;
+    refuses(&rt, alloc, "image", other, "refused: input: magic\n")?;
+    no_image(
+        &rt,
+        alloc,
+        &THREE_WORDS[..19],
+        "refused: input: short 28 27\n",
+    )?;
+    let longer = b"\x03\0\0\0\0\0\0\0\0\0\0\0\0\0\0\0\0\0\0\0\0";
+    no_image(&rt, alloc, longer, "refused: input: extra 28\n")?;
+    let wordy = b"\x01\x40\0\0\0\0\0\0";
+    no_image(&rt, alloc, wordy, "refused: input: limit 16385\n")?;
+    Ok(())
+}
+
+#[test]
+fn refuses_pieces_out_of_place(rt: HostRuntime) -> Result<(), Fail> {
+    let alloc = rt.alloc();
+    let beyond = b"\0\0\0\0\x01\0\0\0\0\0\x10\0\x01\0\0\0\xff";
+    no_image(&rt, alloc, beyond, "refused: input: range 0x00100000\n")?;
+    let touching = b"\0\0\0\0\x02\0\0\0\0\0\0\0\x01\0\0\0\xff\x01\0\0\0\x01\0\0\0\xff";
+    no_image(&rt, alloc, touching, "refused: input: order 1\n")?;
     Ok(())
 }
 
 #[test]
 fn knows_its_words(rt: HostRuntime) -> Result<(), Fail> {
     let alloc = rt.alloc();
-    assert!(rt; is_usage(alloc, &[])?);
-    assert!(rt; is_usage(alloc, &["run"])?);
-    assert!(rt; is_usage(alloc, &["run", ""])?);
-    assert!(rt; is_usage(alloc, &["run", "-a.job"])?);
-    assert!(rt; is_usage(alloc, &["runs", "a.job"])?);
-    assert!(rt; is_usage(alloc, &["run", "a.job", "a.job"])?);
+    is_usage(&rt, alloc, &[])?;
+    is_usage(&rt, alloc, &["run"])?;
+    is_usage(&rt, alloc, &["run", ""])?;
+    is_usage(&rt, alloc, &["run", "-a.job"])?;
+    is_usage(&rt, alloc, &["image", "-a.job"])?;
+    is_usage(&rt, alloc, &["runs", "a.job"])?;
+    is_usage(&rt, alloc, &["run", "a.job", "a.job"])?;
     Ok(())
 }
 

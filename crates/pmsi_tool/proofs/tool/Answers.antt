@@ -3,8 +3,8 @@ use Rattle.pmsi_tool.proofs.Causes.{complete_complaint, fault_complaint, refused
 use Rattle.pmsi_tool.proofs.tool.Goals as goal
 
 pub returns-in-Ok-clause-refused_always : goal.returns-in-Ok-clause-refused_always
-returns-in-Ok-clause-refused_always g c = λ name held refusal run holds refused _ _ _.
-    refused_text (map (string_bytes {Z = Global}) c.args.words.now) (g.F.Files.contents c.args.files.now) c.write_text.result c.in-Ok.text.items c.in-Ok.ensures.text name held refusal run holds refused
+returns-in-Ok-clause-refused_always g c = λ command name held refusal asked holds refused _ _ _.
+    refused_text (map (string_bytes {Z = Global}) c.args.words.now) (g.F.Files.contents c.args.files.now) c.write_text.result c.in-Ok.text.items c.in-Ok.ensures.text command name held refusal asked holds refused
 
 pub returns-in-Err-clause-write_fault : goal.returns-in-Err-clause-write_fault
 returns-in-Err-clause-write_fault g c = λ is. inr (

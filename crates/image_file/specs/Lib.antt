@@ -1,0 +1,4 @@
+pub mod Format
+pub mod Checks
+pub mod Reading
+pub mod Laws
