@@ -2,7 +2,7 @@
 
 ghost use Rattle.image_file.specs.Laws.{NumbersAgree, ImageOrFault, NotBoth, OneImage, NeverMemory, FitsFile};
 
-/// Four bytes are those of the number that they read as, and no other number has these bytes.
+/// Four bytes are those of the number that they read as, and a number of four bytes is the one that its bytes read as.
 pub fn four_bytes()
     ensures { NumbersAgree }
 {}

@@ -20,7 +20,8 @@ write_fault_line = codes "write fault\n"
 abbrev pub no_memory_line : List ℕ
 no_memory_line = codes "no memory\n"
 
--- the first check of an image that fails: what is needed and what there is, a number, an address, a piece's number, a place
+-- the first check of an image that fails, with what is needed and what there is, a number, an address, a piece's number or
+-- a place; want of memory is never such a check
 abbrev pub fault_text : ImageFault → List ℕ
 fault_text (Short needed have) = codes "short " ++ decimal needed ++ codes " " ++ decimal have
 fault_text Magic = codes "magic"

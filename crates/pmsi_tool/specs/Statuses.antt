@@ -30,7 +30,7 @@ Stands words contents before now blamed ReadFault = IsReadFault words before now
 Stands words contents before now blamed (Refused refusal) = Refuses words contents refusal
 Stands words contents before now blamed NoMemory = ⊤
 
--- what can be said of the file that the words name before it is looked at
+-- why the file that the words name isn't read whole
 abbrev pub StandsAt : Option Contents → List ℕ → ℕ → ℕ → Option (List ℕ) → Complaint → Type 0
 StandsAt contents name before now blamed Usage = ⊥
 StandsAt contents name before now blamed ReadFault = Rose before now × (blamed ≡ Some name)

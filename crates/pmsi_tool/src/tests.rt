@@ -408,3 +408,27 @@ fn each_read_fails_in_turn(rt: HostRuntime) -> Result<(), Fail> {
     assert_eq!(rt; ran.status, ToolStatus::Done);
     Ok(())
 }
+
+#[test]
+fn statuses_have_their_numbers(rt: HostRuntime) {
+    assert_eq!(rt; ToolStatus::Done as u8, 0);
+    assert_eq!(rt; ToolStatus::Usage as u8, 2);
+    assert_eq!(rt; ToolStatus::ReadFault as u8, 3);
+    assert_eq!(rt; ToolStatus::WriteFault as u8, 4);
+    assert_eq!(rt; ToolStatus::Refused as u8, 5);
+    assert_eq!(rt; ToolStatus::NoMemory as u8, 6);
+}
+
+#[test]
+fn takes_as_many_words_as_the_limit(rt: HostRuntime) -> Result<(), Fail> {
+    let alloc = rt.alloc();
+    let mut bytes = vec![in alloc; 0u8; 65_552]?;
+    bytes[..16].copy_from_slice(b"PMSIIMG1\0\x40\0\0\0\0\0\0");
+    let mut files = SteadyFiles::new(listed(alloc, bytes)?);
+    let out = MemorySink::new(vec![in alloc; 0u8; 65_552]?, 4096, Vec::new(alloc));
+    let err = sink(alloc, 1024, Vec::new(alloc))?;
+    let ran = call(alloc, &["image", "a.job"], &mut files, out, err)?;
+    assert_eq!(rt; ran.status, ToolStatus::Done);
+    assert_eq!(rt; ran.out.bytes().len(), 65_552);
+    Ok(())
+}
