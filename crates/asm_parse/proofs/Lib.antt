@@ -1,3 +1,4 @@
 pub mod Places
 pub mod LineCuts
 pub mod Spans
+pub mod Worked

@@ -29,3 +29,36 @@ impl<T: Drop> From<AllocFailed<T>> for TokenFault {
         TokenFault::NoMemory
     }
 }
+
+/// What is wrong with a line of assembly. Columns are counted in bytes, from 1 on.
+#[derive(Clone, Copy, Debug, PartialEq, Eq)]
+pub enum AsmCause {
+    /// This byte outside the comment begins no token.
+    Character(u32),
+    /// No mnemonic and no directive stands at this column, where one must stand.
+    Word(u32),
+    /// The first token that doesn't fit, or the line's end.
+    Operand(u32),
+    /// A number that is misspelt or out of its range.
+    Number(u32),
+    /// The text would have more words than the limit.
+    TextLong,
+    /// A name that was defined before.
+    Twice(u32),
+    /// This address is named a second time.
+    Overlap(u32),
+    /// This address is past the greatest memory.
+    Range(u32),
+    /// A name that is defined nowhere.
+    Unknown(u32),
+    /// A jump or branch can't reach so far, or the distance is odd.
+    Reach(i64),
+}
+
+/// Why a source gives no image: the first line that is wrong, from 1 on, and its first cause.
+#[derive(Clone, Copy, Debug, PartialEq, Eq)]
+pub enum AsmFault {
+    At(u32, AsmCause),
+    /// Memory ran out.
+    NoMemory,
+}

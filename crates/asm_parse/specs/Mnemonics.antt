@@ -1,0 +1,278 @@
+-- Instructions and pseudo-instructions: the forms of each, and the instructions that it stands for. Names of instructions
+-- and operands are those of the RISC-V Unprivileged ISA, version 20191213. Pseudo-instructions are those of its chapter 25,
+-- but for two: `call` is one jump, and `la` gives an absolute address.
+use Rattle.std.specs.Prelude.{ℕ, ◌+◌, ◌-◌, ◌*◌, ◌/◌, ◌%◌, ◌^◌, ℤ, pos, negsuc, neg_ℤ, Bool, true, false, not, ◌&&◌, ◌==◌, if◌then◌else◌, List, [], ◌∷◌, ◌++◌, map, codes, Option, Some, None}
+use Rattle.std.specs.List.{flat_map}
+use Rattle.std.specs.Int.{w32, cast_signed}
+use Rattle.pmsi_model.specs.declared.instr.Instr.{Instr}
+use Rattle.pmsi_model.specs.declared.instr.Instr.TheVariants.{Lui, Auipc, Jal, Jalr, Branch, Load, Store, OpImm, Op, Amo, Fence, Ecall, Ebreak}
+use Rattle.pmsi_model.specs.declared.instr.BranchOp.{BranchOp}
+use Rattle.pmsi_model.specs.declared.instr.BranchOp.TheVariants.{Beq, Bne, Blt, Bge, Bltu, Bgeu}
+use Rattle.pmsi_model.specs.declared.instr.LoadOp.{LoadOp}
+use Rattle.pmsi_model.specs.declared.instr.LoadOp.TheVariants.{Lb, Lh, Lw, Lbu, Lhu}
+use Rattle.pmsi_model.specs.declared.instr.StoreOp.{StoreOp}
+use Rattle.pmsi_model.specs.declared.instr.StoreOp.TheVariants.{Sb, Sh, Sw}
+use Rattle.pmsi_model.specs.declared.instr.ImmOp.{ImmOp}
+use Rattle.pmsi_model.specs.declared.instr.ImmOp.TheVariants.{Addi, Slli, Slti, Sltiu, Xori, Srli, Srai, Ori, Andi}
+use Rattle.pmsi_model.specs.declared.instr.RegOp.{RegOp}
+use Rattle.pmsi_model.specs.declared.instr.RegOp.TheVariants.{Add, Sub, Sll, Slt, Sltu, Xor, Srl, Sra, Or, And}
+use Rattle.pmsi_model.specs.declared.instr.AmoOp.{AmoOp}
+use Rattle.pmsi_model.specs.declared.instr.AmoOp.TheVariants.{Amoadd, Amoswap, Amoxor, Amoor, Amoand, Amomin, Amomax, Amominu, Amomaxu}
+use Rattle.pmsi_model.specs.Words.{word_of, signed, wrapped}
+use Rattle.asm_parse.specs.Numbers.{is_between, is_number, value_in}
+use Rattle.asm_parse.specs.Operands.{Expr, Imm, Part, Whole, High, Low, Slot, Register, Immediate, Memory, Base, Value, Constant, Fences, Operand, Reg, ImmIs, MemoryAt, ExprIs, ConstantIs, FencesAre}
+
+-- ---- what a line puts into text or data
+
+-- an instruction, or a number of so many bytes
+pub data Code : Type 0 where
+  Instruction : Instr → Code
+  Raw : ℕ → ℕ → Code
+
+-- it is known; or it has a number whose value is known once all names are, and which must fit, else there is a fault at the
+-- column that is given (a misspelt number alone is blamed at its own); or it has the distance from its own address to a
+-- target, which must be within reach
+pub data Item : Type 0 where
+  Known : Code → Item
+  Numbered : Expr → ℕ → (ℤ → Bool) → (ℤ → Code) → Item
+  Distant : Expr → (ℤ → Bool) → (ℤ → Code) → Item
+
+-- ---- immediates
+
+-- what is left of a number in 32 bits
+abbrev pub in_32_bits : ℤ → ℕ
+in_32_bits (pos n) = n % 2 ^ 32
+in_32_bits (negsuc n) = (2 ^ 32 - 1) - n % 2 ^ 32
+
+-- the high twenty and the low twelve bits of a number, the low ones as a signed number: 4096 * high + low is the number
+-- again, in 32 bits
+abbrev pub high_part : ℤ → ℕ
+high_part n = wrapped (in_32_bits n + 2048) / 4096
+
+abbrev pub low_part : ℤ → ℤ
+low_part n = signed 12 (in_32_bits n % 4096)
+
+abbrev pub part_of : Part → ℤ → ℤ
+part_of Whole n = n
+part_of High n = pos (high_part n)
+part_of Low n = low_part n
+
+abbrev pub is_imm_12 : ℤ → Bool
+is_imm_12 n = is_between (neg_ℤ (pos 2048)) (pos 2047) n
+
+abbrev pub is_imm_20 : ℤ → Bool
+is_imm_20 n = is_between (pos 0) (pos 1048575) n
+
+abbrev pub is_shift : ℤ → Bool
+is_shift n = is_between (pos 0) (pos 31) n
+
+-- an immediate in its range
+abbrev pub with_imm : (ℤ → Bool) → (ℤ → Instr) → Imm → Item
+with_imm fits make imm = Numbered imm.expr imm.column (λ n. fits (part_of imm.part n)) (λ n. Instruction (make (part_of imm.part n)))
+
+-- even distances within reach
+abbrev pub reaches : ℕ → ℤ → Bool
+reaches most n = (in_32_bits n % 2 == 0) && is_between (neg_ℤ (pos most)) (pos (most - 2)) n
+
+abbrev pub jump_to : ℕ → Expr → Item
+jump_to rd target = Distant target (reaches 1048576) (λ n. Instruction (Jal rd n))
+
+abbrev pub branch_to : BranchOp → ℕ → ℕ → Expr → Item
+branch_to op rs1 rs2 target = Distant target (reaches 4096) (λ n. Instruction (Branch op rs1 rs2 n))
+
+abbrev pub ready : Instr → List Item
+ready instr = Known (Instruction instr) ∷ []
+
+-- ---- forms
+
+-- the slots of a form, and what it stands for
+pub record Form : Type 0 where
+  pub slots : List Slot
+  pub items : List Operand → List Item
+
+abbrev pub no_operands : List Item → Form
+no_operands items = record { slots = []; items = λ _. items }
+
+abbrev pub of_r : (ℕ → List Item) → List Operand → List Item
+of_r f (Reg a ∷ []) = f a
+of_r f operands = []
+
+abbrev pub of_rr : (ℕ → ℕ → List Item) → List Operand → List Item
+of_rr f (Reg a ∷ Reg b ∷ []) = f a b
+of_rr f operands = []
+
+abbrev pub of_rrr : (ℕ → ℕ → ℕ → List Item) → List Operand → List Item
+of_rrr f (Reg a ∷ Reg b ∷ Reg c ∷ []) = f a b c
+of_rrr f operands = []
+
+abbrev pub of_ri : (ℕ → Imm → List Item) → List Operand → List Item
+of_ri f (Reg a ∷ ImmIs imm ∷ []) = f a imm
+of_ri f operands = []
+
+abbrev pub of_rri : (ℕ → ℕ → Imm → List Item) → List Operand → List Item
+of_rri f (Reg a ∷ Reg b ∷ ImmIs imm ∷ []) = f a b imm
+of_rri f operands = []
+
+abbrev pub of_rm : (ℕ → Imm → ℕ → List Item) → List Operand → List Item
+of_rm f (Reg a ∷ MemoryAt imm b ∷ []) = f a imm b
+of_rm f operands = []
+
+abbrev pub of_e : (Expr → List Item) → List Operand → List Item
+of_e f (ExprIs e ∷ []) = f e
+of_e f operands = []
+
+abbrev pub of_re : (ℕ → Expr → List Item) → List Operand → List Item
+of_re f (Reg a ∷ ExprIs e ∷ []) = f a e
+of_re f operands = []
+
+abbrev pub of_rre : (ℕ → ℕ → Expr → List Item) → List Operand → List Item
+of_rre f (Reg a ∷ Reg b ∷ ExprIs e ∷ []) = f a b e
+of_rre f operands = []
+
+abbrev pub of_rc : (ℕ → Expr → Option ℤ → List Item) → List Operand → List Item
+of_rc f (Reg a ∷ ConstantIs e value ∷ []) = f a e value
+of_rc f operands = []
+
+abbrev pub of_ff : (ℕ → ℕ → List Item) → List Operand → List Item
+of_ff f (FencesAre a ∷ FencesAre b ∷ []) = f a b
+of_ff f operands = []
+
+abbrev pub form_r : (ℕ → List Item) → Form
+form_r f = record { slots = Register ∷ []; items = of_r f }
+
+abbrev pub form_rr : (ℕ → ℕ → List Item) → Form
+form_rr f = record { slots = Register ∷ Register ∷ []; items = of_rr f }
+
+abbrev pub form_rrr : (ℕ → ℕ → ℕ → List Item) → Form
+form_rrr f = record { slots = Register ∷ Register ∷ Register ∷ []; items = of_rrr f }
+
+abbrev pub form_ri : (ℕ → Imm → List Item) → Form
+form_ri f = record { slots = Register ∷ Immediate ∷ []; items = of_ri f }
+
+abbrev pub form_rri : (ℕ → ℕ → Imm → List Item) → Form
+form_rri f = record { slots = Register ∷ Register ∷ Immediate ∷ []; items = of_rri f }
+
+abbrev pub form_rm : (ℕ → Imm → ℕ → List Item) → Form
+form_rm f = record { slots = Register ∷ Memory ∷ []; items = of_rm f }
+
+abbrev pub form_rrb : (ℕ → ℕ → ℕ → List Item) → Form
+form_rrb f = record { slots = Register ∷ Register ∷ Base ∷ []; items = of_rrr f }
+
+abbrev pub form_e : (Expr → List Item) → Form
+form_e f = record { slots = Value ∷ []; items = of_e f }
+
+abbrev pub form_re : (ℕ → Expr → List Item) → Form
+form_re f = record { slots = Register ∷ Value ∷ []; items = of_re f }
+
+abbrev pub form_rre : (ℕ → ℕ → Expr → List Item) → Form
+form_rre f = record { slots = Register ∷ Register ∷ Value ∷ []; items = of_rre f }
+
+abbrev pub form_rc : (ℕ → Expr → Option ℤ → List Item) → Form
+form_rc f = record { slots = Register ∷ Constant ∷ []; items = of_rc f }
+
+abbrev pub form_ff : (ℕ → ℕ → List Item) → Form
+form_ff f = record { slots = Fences ∷ Fences ∷ []; items = of_ff f }
+
+-- ---- the tables
+
+abbrev pub branches : List (List ℕ × BranchOp)
+branches = (codes "beq", Beq) ∷ (codes "bne", Bne) ∷ (codes "blt", Blt) ∷ (codes "bge", Bge) ∷ (codes "bltu", Bltu) ∷ (codes "bgeu", Bgeu) ∷ []
+
+abbrev pub loads : List (List ℕ × LoadOp)
+loads = (codes "lb", Lb) ∷ (codes "lh", Lh) ∷ (codes "lw", Lw) ∷ (codes "lbu", Lbu) ∷ (codes "lhu", Lhu) ∷ []
+
+abbrev pub stores : List (List ℕ × StoreOp)
+stores = (codes "sb", Sb) ∷ (codes "sh", Sh) ∷ (codes "sw", Sw) ∷ []
+
+abbrev pub imm_ops : List (List ℕ × ImmOp)
+imm_ops = (codes "addi", Addi) ∷ (codes "slti", Slti) ∷ (codes "sltiu", Sltiu) ∷ (codes "xori", Xori) ∷ (codes "ori", Ori) ∷ (codes "andi", Andi) ∷ []
+
+abbrev pub shift_ops : List (List ℕ × ImmOp)
+shift_ops = (codes "slli", Slli) ∷ (codes "srli", Srli) ∷ (codes "srai", Srai) ∷ []
+
+abbrev pub reg_ops : List (List ℕ × RegOp)
+reg_ops =
+    (codes "add", Add) ∷ (codes "sub", Sub) ∷ (codes "sll", Sll) ∷ (codes "slt", Slt) ∷ (codes "sltu", Sltu) ∷ (codes "xor", Xor) ∷ (codes "srl", Srl)
+    ∷ (codes "sra", Sra) ∷ (codes "or", Or) ∷ (codes "and", And) ∷ []
+
+abbrev pub amo_ops : List (List ℕ × AmoOp)
+amo_ops =
+    (codes "amoadd.w", Amoadd) ∷ (codes "amoswap.w", Amoswap) ∷ (codes "amoxor.w", Amoxor) ∷ (codes "amoor.w", Amoor) ∷ (codes "amoand.w", Amoand)
+    ∷ (codes "amomin.w", Amomin) ∷ (codes "amomax.w", Amomax) ∷ (codes "amominu.w", Amominu) ∷ (codes "amomaxu.w", Amomaxu) ∷ []
+
+-- an AMO's suffixes, with their aq and rl
+abbrev pub orderings : List (List ℕ × Bool × Bool)
+orderings = (codes "", false, false) ∷ (codes ".aq", true, false) ∷ (codes ".rl", false, true) ∷ (codes ".aqrl", true, true) ∷ []
+
+abbrev pub amo_rows : AmoOp → List ℕ → List (List ℕ × List Form)
+amo_rows op name = map (λ o. (name ++ o.0, form_rrb (λ rd rs2 rs1. ready (Amo op rd rs1 rs2 o.1 o.2)) ∷ [])) orderings
+
+-- `li` by its value: one instruction where it is of twelve bits, else its high part and, unless that is 0, its low part
+abbrev pub load_constant : ℕ → ℤ → List Item
+load_constant rd n =
+    let value = cast_signed w32 (word_of n) in
+    if is_imm_12 value then ready (OpImm Addi rd 0 value)
+    else (if word_of n % 4096 == 0 then ready (Lui rd (high_part value))
+    else Known (Instruction (Lui rd (high_part value))) ∷ ready (OpImm Addi rd rd (low_part value)))
+
+-- an address or number in two instructions
+abbrev pub load_address : ℕ → Expr → List Item
+load_address rd expr =
+    Numbered expr expr.column is_number (λ n. Instruction (Lui rd (high_part n)))
+    ∷ Numbered expr expr.column is_number (λ n. Instruction (OpImm Addi rd rd (low_part n))) ∷ []
+
+-- a constant without a value has a fault later, and room for two instructions
+abbrev pub load_immediate : ℕ → Expr → Option ℤ → List Item
+load_immediate rd expr (Some n) = load_constant rd n
+load_immediate rd expr None = load_address rd expr
+
+abbrev pub fence_word : ℕ → ℕ → ℕ
+fence_word before after = 2 ^ 24 * before + 2 ^ 20 * after + 0xf
+
+unfoldable pub mnemonics : List (List ℕ × List Form)
+mnemonics =
+    -- instructions
+    (codes "lui", form_ri (λ rd imm. with_imm is_imm_20 (λ n. Lui rd (word_of n)) imm ∷ []) ∷ [])
+    ∷ (codes "auipc", form_ri (λ rd imm. with_imm is_imm_20 (λ n. Auipc rd (word_of n)) imm ∷ []) ∷ [])
+    ∷ (codes "jal", form_re (λ rd target. jump_to rd target ∷ []) ∷ form_e (λ target. jump_to 1 target ∷ []) ∷ [])
+    ∷ (codes "jalr", form_rm (λ rd imm rs1. with_imm is_imm_12 (Jalr rd rs1) imm ∷ []) ∷ form_rri (λ rd rs1 imm. with_imm is_imm_12 (Jalr rd rs1) imm ∷ []) ∷ form_r (λ rs. ready (Jalr 1 rs (pos 0))) ∷ [])
+    ∷ map (λ row. (row.0, form_rre (λ rs1 rs2 target. branch_to row.1 rs1 rs2 target ∷ []) ∷ [])) branches
+    ++ map (λ row. (row.0, form_rm (λ rd imm rs1. with_imm is_imm_12 (Load row.1 rd rs1) imm ∷ []) ∷ [])) loads
+    ++ map (λ row. (row.0, form_rm (λ rs2 imm rs1. with_imm is_imm_12 (Store row.1 rs1 rs2) imm ∷ []) ∷ [])) stores
+    ++ map (λ row. (row.0, form_rri (λ rd rs1 imm. with_imm is_imm_12 (OpImm row.1 rd rs1) imm ∷ []) ∷ [])) imm_ops
+    ++ map (λ row. (row.0, form_rri (λ rd rs1 imm. with_imm is_shift (OpImm row.1 rd rs1) imm ∷ []) ∷ [])) shift_ops
+    ++ map (λ row. (row.0, form_rrr (λ rd rs1 rs2. ready (Op row.1 rd rs1 rs2)) ∷ [])) reg_ops
+    ++ flat_map (λ row. amo_rows row.1 row.0) amo_ops
+    ++ (codes "fence", no_operands (ready (Fence 0x0ff0000f)) ∷ form_ff (λ before after. ready (Fence (fence_word before after))) ∷ [])
+    ∷ (codes "ecall", no_operands (ready Ecall) ∷ [])
+    ∷ (codes "ebreak", no_operands (ready Ebreak) ∷ [])
+    -- pseudo-instructions
+    ∷ (codes "nop", no_operands (ready (OpImm Addi 0 0 (pos 0))) ∷ [])
+    ∷ (codes "mv", form_rr (λ rd rs. ready (OpImm Addi rd rs (pos 0))) ∷ [])
+    ∷ (codes "not", form_rr (λ rd rs. ready (OpImm Xori rd rs (neg_ℤ (pos 1)))) ∷ [])
+    ∷ (codes "neg", form_rr (λ rd rs. ready (Op Sub rd 0 rs)) ∷ [])
+    ∷ (codes "seqz", form_rr (λ rd rs. ready (OpImm Sltiu rd rs (pos 1))) ∷ [])
+    ∷ (codes "snez", form_rr (λ rd rs. ready (Op Sltu rd 0 rs)) ∷ [])
+    ∷ (codes "sltz", form_rr (λ rd rs. ready (Op Slt rd rs 0)) ∷ [])
+    ∷ (codes "sgtz", form_rr (λ rd rs. ready (Op Slt rd 0 rs)) ∷ [])
+    ∷ (codes "beqz", form_re (λ rs target. branch_to Beq rs 0 target ∷ []) ∷ [])
+    ∷ (codes "bnez", form_re (λ rs target. branch_to Bne rs 0 target ∷ []) ∷ [])
+    ∷ (codes "blez", form_re (λ rs target. branch_to Bge 0 rs target ∷ []) ∷ [])
+    ∷ (codes "bgez", form_re (λ rs target. branch_to Bge rs 0 target ∷ []) ∷ [])
+    ∷ (codes "bltz", form_re (λ rs target. branch_to Blt rs 0 target ∷ []) ∷ [])
+    ∷ (codes "bgtz", form_re (λ rs target. branch_to Blt 0 rs target ∷ []) ∷ [])
+    ∷ (codes "bgt", form_rre (λ a b target. branch_to Blt b a target ∷ []) ∷ [])
+    ∷ (codes "ble", form_rre (λ a b target. branch_to Bge b a target ∷ []) ∷ [])
+    ∷ (codes "bgtu", form_rre (λ a b target. branch_to Bltu b a target ∷ []) ∷ [])
+    ∷ (codes "bleu", form_rre (λ a b target. branch_to Bgeu b a target ∷ []) ∷ [])
+    ∷ (codes "j", form_e (λ target. jump_to 0 target ∷ []) ∷ [])
+    ∷ (codes "call", form_e (λ target. jump_to 1 target ∷ []) ∷ [])
+    ∷ (codes "jr", form_r (λ rs. ready (Jalr 0 rs (pos 0))) ∷ [])
+    ∷ (codes "ret", no_operands (ready (Jalr 0 1 (pos 0))) ∷ [])
+    ∷ (codes "li", form_rc load_immediate ∷ [])
+    ∷ (codes "la", form_re load_address ∷ [])
+    ∷ []
+
+-- the forms of a mnemonic, if there is one of this name
+unfoldable pub forms_named : List ℕ → Option (List Form)
+forms_named name = value_in mnemonics name
