@@ -16,7 +16,7 @@ use Rattle.pmsi_tool.specs.declared.complaint.Complaint.{Complaint}
 use Rattle.pmsi_tool.specs.declared.complaint.Complaint.TheVariants.{Usage, ReadFault, Refused, NoMemory}
 use Rattle.pmsi_tool.specs.Words.{IsCommand, word_of}
 use Rattle.pmsi_tool.specs.declared.words.Command.{Command}
-use Rattle.pmsi_tool.specs.declared.words.Command.TheVariants.{Run, Image}
+use Rattle.pmsi_tool.specs.declared.words.Command.TheVariants.{Run, Dis, Image}
 use Rattle.pmsi_tool.specs.declared.complaint.Refusal.TheVariants.{Large, NotBuilt, NoImage}
 use Rattle.pmsi_tool.specs.declared.ToolStatus.{ToolStatus}
 use Rattle.pmsi_tool.specs.declared.ToolStatus.TheVariants.{Done as DoneStatus, Usage as UsageStatus, ReadFault as ReadFaultStatus, WriteFault as WriteFaultStatus, Refused as RefusedStatus, NoMemory as NoMemoryStatus}
@@ -83,8 +83,13 @@ same_name words command command' name name' one other = ap (λ (l : List (List �
 
 command_by_word : (command command' : Command) → word_of command ≡ word_of command' → command ≡ command'
 command_by_word Run Run same = refl
+command_by_word Run Dis same = let first : 114 ≡ 100 = ap (λ (l : List ℕ). get_or l 0 0) same in absurd (omega (arith, first))
 command_by_word Run Image same = absurd cc
+command_by_word Dis Run same = let first : 100 ≡ 114 = ap (λ (l : List ℕ). get_or l 0 0) same in absurd (omega (arith, first))
+command_by_word Dis Dis same = refl
+command_by_word Dis Image same = absurd cc
 command_by_word Image Run same = absurd cc
+command_by_word Image Dis same = absurd cc
 command_by_word Image Image same = refl
 
 same_command : (words : List (List ℕ)) (command command' : Command) (name name' : List ℕ) → IsCommand words command name → IsCommand words command' name' → command ≡ command'
@@ -100,10 +105,13 @@ same_held (Some contents) name held other holds reads = same_told (contents name
 -- bytes that are accepted aren't refused
 not_both : (command : Command) (held text : List ℕ) (refusal : Refusal) → IsResultOf command held text → IsRefused refusal command held → ⊥
 not_both Run held text Large is refused = let within = is.1.within in omega arith
+not_both Dis held text Large is refused = let within = is.1.within in omega arith
 not_both Image held text Large is refused = let within = is.1.within in omega arith
 not_both Run held text NotBuilt is refused = refused.1 is.0 is.1.job_text
+not_both Dis held text NotBuilt is refused = refused
 not_both Image held text NotBuilt is refused = refused
 not_both Run held text (NoImage fault) is refused = refused
+not_both Dis held text (NoImage fault) is refused = never_both is.0 fault held is.1.bytes refused.1
 not_both Image held text (NoImage fault) is refused = never_both is.0 fault held is.1.bytes refused.1
 
 -- where contents are told, an accepted file isn't refused

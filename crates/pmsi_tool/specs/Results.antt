@@ -10,10 +10,11 @@ use Rattle.pmsi_model.specs.Latest.{ReadsLatestWrite}
 use Rattle.pmsi_model.specs.Waiting.{WaitsAreBounded}
 use Rattle.pmsi_outside.specs.Files.{Contents, Tells}
 use Rattle.job_text.specs.JobText.{IsTextOf}
+use Rattle.asm_print.specs.ListingText.{listing_text}
 use Rattle.image_file.specs.Format.{IsBytesOf, image_bytes}
 use Rattle.image_file.specs.Checks.{HasFault}
 use Rattle.pmsi_tool.specs.declared.words.Command.{Command}
-use Rattle.pmsi_tool.specs.declared.words.Command.TheVariants.{Run, Image}
+use Rattle.pmsi_tool.specs.declared.words.Command.TheVariants.{Run, Dis, Image}
 use Rattle.pmsi_tool.specs.declared.complaint.Refusal.{Refusal}
 use Rattle.pmsi_tool.specs.declared.complaint.Refusal.TheVariants.{Large, NotBuilt, NoImage}
 use Rattle.pmsi_tool.specs.declared.complaint.Complaint.{Complaint}
@@ -32,17 +33,26 @@ pub record IsImageOf (image : ImageValue) (held text : List ℕ) : Type 0 where
   pub bytes : IsBytesOf image held
   pub written : text ≡ image_bytes image
 
+-- the bytes are those of this image, and the text is its assembly text
+pub record IsTextOfImage (image : ImageValue) (held text : List ℕ) : Type 0 where
+  pub within : length held ≤ MAX_FILE_BYTES
+  pub bytes : IsBytesOf image held
+  pub printed : text ≡ listing_text image
+
 -- the bytes are accepted, and the text is the result of the command
 abbrev pub IsResultOf : Command → List ℕ → List ℕ → Type 0
 IsResultOf Run held text = (job : JobValue) × IsListingOf job held text
+IsResultOf Dis held text = (image : ImageValue) × IsTextOfImage image held text
 IsResultOf Image held text = (image : ImageValue) × IsImageOf image held text
 
 -- why a command refuses the bytes
 abbrev pub IsRefused : Refusal → Command → List ℕ → Type 0
 IsRefused Large command held = MAX_FILE_BYTES < length held
 IsRefused NotBuilt Run held = (length held ≤ MAX_FILE_BYTES) × ((job : JobValue) → IsTextOf job held → ⊥)
+IsRefused NotBuilt Dis held = ⊥
 IsRefused NotBuilt Image held = ⊥
 IsRefused (NoImage fault) Run held = ⊥
+IsRefused (NoImage fault) Dis held = (length held ≤ MAX_FILE_BYTES) × HasFault held fault
 IsRefused (NoImage fault) Image held = (length held ≤ MAX_FILE_BYTES) × HasFault held fault
 
 -- what holds of the written machine of a job, up to its slots: it is coherent at every slot boundary, every read takes the

@@ -1,17 +1,19 @@
 //! The answer to a call, before anything is written.
 ghost use Rattle.std.specs.Prelude.{◌≡◌, ◌≤◌, ℕ, List, map, length, string_bytes, false, IfOk, IfErr};
 ghost use Rattle.pmsi_model.specs.declared.limits.TheConstants.{MAX_FILE_BYTES};
-ghost use Rattle.pmsi_tool.specs.declared.words.Command.TheVariants.{Run, Image};
+ghost use Rattle.pmsi_tool.specs.declared.words.Command.TheVariants.{Run, Dis, Image as ImageCommand};
 ghost use Rattle.pmsi_tool.specs.Results.{Gives, IsResultOf, Reads, RefusesAt};
+ghost use Rattle.image_file.specs.Format.{IsBytesOf};
 ghost use Rattle.pmsi_tool.specs.Statuses.{Stands, StandsAt};
 ghost use Rattle.pmsi_model.specs.Listing.{listing_of};
 
 use crate::complaint::{Complaint, Refusal};
 use crate::words::{Command, command_of};
+use asm_print::listing_of;
 use image_file::{ImageFault, read_image, write_image};
 use job_text::{JobFault, read_job};
 use listing::listing;
-use pmsi_model::{Job, Keep, NoMemory};
+use pmsi_model::{Image, Job, Keep, NoMemory};
 use pmsi_outside::{Files, ReadAll, read_whole};
 use sim_serial::Sim;
 use std::alloc::Global;
@@ -42,6 +44,7 @@ fn result_of(alloc: Global, command: Command, bytes: &[u8]) -> Result<Vec<u8>, C
 {
     match command {
         Command::Run => run_text(alloc, bytes),
+        Command::Dis => image_text(alloc, bytes),
         Command::Image => image_bytes(alloc, bytes),
     }
 }
@@ -81,23 +84,6 @@ fn run_text(alloc: Global, bytes: &[u8]) -> Result<Vec<u8>, Complaint>
     }
 }
 
-/// The bytes of the image whose bytes these are.
-fn image_bytes(alloc: Global, bytes: &[u8]) -> Result<Vec<u8>, Complaint>
-    requires { length bytes.now ≤ MAX_FILE_BYTES }
-    ensures text { IfOk result (λ text. IsResultOf Image bytes.now text.items) }
-    ensures complaint { IfErr result (λ complaint. RefusesAt Image bytes.now complaint) }
-{
-    let image = match read_image(alloc, bytes) {
-        Ok(image) => image,
-        Err(ImageFault::NoMemory) => return Err(Complaint::NoMemory),
-        Err(fault) => return Err(Complaint::Refused(Refusal::NoImage(fault))),
-    };
-    match write_image(alloc, &image) {
-        Ok(bytes) => Ok(bytes),
-        Err(NoMemory) => Err(Complaint::NoMemory),
-    }
-}
-
 /// The listing of a job's run.
 fn run_job(alloc: Global, job: &Job) -> Result<Vec<u8>, NoMemory>
     requires { job.now.shape.cores ≡ 1 }
@@ -110,4 +96,43 @@ fn run_job(alloc: Global, job: &Job) -> Result<Vec<u8>, NoMemory>
     let mut sim = Sim::open(alloc, job, keep)?;
     sim.run();
     listing(alloc, &sim)
+}
+
+/// The image of these bytes.
+fn image_of(alloc: Global, bytes: &[u8]) -> Result<Image, Complaint>
+    requires { length bytes.now ≤ MAX_FILE_BYTES }
+    ensures image { IfOk result (λ image. IsBytesOf image bytes.now) }
+    ensures complaint { IfErr result (λ complaint. RefusesAt Dis bytes.now complaint × RefusesAt ImageCommand bytes.now complaint) }
+{
+    match read_image(alloc, bytes) {
+        Ok(image) => Ok(image),
+        Err(ImageFault::NoMemory) => Err(Complaint::NoMemory),
+        Err(fault) => Err(Complaint::Refused(Refusal::NoImage(fault))),
+    }
+}
+
+/// The assembly text of the image of these bytes.
+fn image_text(alloc: Global, bytes: &[u8]) -> Result<Vec<u8>, Complaint>
+    requires { length bytes.now ≤ MAX_FILE_BYTES }
+    ensures text { IfOk result (λ text. IsResultOf Dis bytes.now text.items) }
+    ensures complaint { IfErr result (λ complaint. RefusesAt Dis bytes.now complaint) }
+{
+    let image = image_of(alloc, bytes)?;
+    match listing_of(alloc, &image) {
+        Ok(text) => Ok(text),
+        Err(NoMemory) => Err(Complaint::NoMemory),
+    }
+}
+
+/// The bytes of the image of these bytes.
+fn image_bytes(alloc: Global, bytes: &[u8]) -> Result<Vec<u8>, Complaint>
+    requires { length bytes.now ≤ MAX_FILE_BYTES }
+    ensures text { IfOk result (λ text. IsResultOf ImageCommand bytes.now text.items) }
+    ensures complaint { IfErr result (λ complaint. RefusesAt ImageCommand bytes.now complaint) }
+{
+    let image = image_of(alloc, bytes)?;
+    match write_image(alloc, &image) {
+        Ok(bytes) => Ok(bytes),
+        Err(NoMemory) => Err(Complaint::NoMemory),
+    }
 }

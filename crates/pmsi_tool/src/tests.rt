@@ -320,6 +320,24 @@ fn writes_images_again(rt: HostRuntime) -> Result<(), Fail> {
 }
 
 #[test]
+fn disassembles_images(rt: HostRuntime) -> Result<(), Fail> {
+    let alloc = rt.alloc();
+    let adds = image(alloc, b"\x02\0\0\0\0\0\0\0\x93\x02\x70\0\x73\0\0\0")?;
+    writes(&rt, alloc, "dis", adds, b".text\naddi x5, x0, 7\necall\n")?;
+    let piece = image(alloc, b"\0\0\0\0\x01\0\0\0\x40\0\0\0\x01\0\0\0\xff")?;
+    writes(
+        &rt,
+        alloc,
+        "dis",
+        piece,
+        b".text\n.data\n.org 0x00000040\n.byte 0xff\n",
+    )?;
+    let short = image(alloc, b"\x02\0\0\0")?;
+    refuses(&rt, alloc, "dis", short, "refused: input: short 16 12\n")?;
+    Ok(())
+}
+
+#[test]
 fn refuses_what_is_no_image(rt: HostRuntime) -> Result<(), Fail> {
     let alloc = rt.alloc();
     let other = b"PMSIIMG2\0\0\0\0\0\0\0\0".to_vec(alloc)?;
@@ -355,6 +373,7 @@ fn knows_its_words(rt: HostRuntime) -> Result<(), Fail> {
     is_usage(&rt, alloc, &["run", ""])?;
     is_usage(&rt, alloc, &["run", "-a.job"])?;
     is_usage(&rt, alloc, &["image", "-a.job"])?;
+    is_usage(&rt, alloc, &["dis"])?;
     is_usage(&rt, alloc, &["runs", "a.job"])?;
     is_usage(&rt, alloc, &["run", "a.job", "a.job"])?;
     Ok(())

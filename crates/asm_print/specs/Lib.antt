@@ -1,0 +1,4 @@
+pub mod Names
+pub mod Operands
+pub mod InstrText
+pub mod ListingText
