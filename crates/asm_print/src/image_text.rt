@@ -29,7 +29,8 @@ fn push_hex(out: &mut Vec<u8>, n: u32) -> Result<(), AllocError>
     out.extend_from_slice(&hex_word(n))
 }
 
-fn push_number(out: &mut Vec<u8>, word: u32) -> Result<(), AllocError>
+/// Appends a word as a number.
+fn push_word_directive(out: &mut Vec<u8>, word: u32) -> Result<(), AllocError>
     ensures { OnOk result (out.new.items ≡ out.old.items ++ word_text word) }
 {
     push_text(out, ".word ")?;
@@ -49,7 +50,7 @@ fn push_word(out: &mut Vec<u8>, pc: u32, word: u32) -> Result<(), AllocError>
 {
     match decode(word) {
         Some(instr) => push_instr(out, pc, instr),
-        None => push_number(out, word),
+        None => push_word_directive(out, word),
     }
 }
 
