@@ -1,15 +1,21 @@
 -- The worked examples: each value is computed.
-use Rattle.std.proofs.Common.{refl}
+use Rattle.std.proofs.Common.{◌≡◌, ℕ, ◌<◌, ◌^◌, pos, [], ◌∷◌, All, Some, refl, arith}
+use Rattle.std.proofs.lemmas.List.Elements.{All-nil, All-cons}
+use Rattle.pmsi_model.proofs.Encodings.{reads_one_way}
+use Rattle.pmsi_model.specs.declared.instr.Instr.{Instr}
+use Rattle.pmsi_model.specs.Instruction.{IsEncodingOf, instr_of}
+use Rattle.pmsi_model.specs.declared.instr.Instr.TheVariants.{OpImm, Ecall}
+use Rattle.pmsi_model.specs.declared.instr.ImmOp.TheVariants.{Addi}
 use Rattle.asm_parse.specs.Tokens.{is_name_byte, is_blank, kind_of, is_strange, code_of, is_after_name, is_within_run, end_at, token_at, tokens_of}
 use Rattle.asm_parse.specs.Lines.{lines_of}
 use Rattle.asm_parse.specs.Numbers.{digits_behind, number_spelt, register_named, weights_behind, fence_set}
-use Rattle.asm_parse.specs.Operands.{take_slot, take_others, take_form, take_more, take_list}
-use Rattle.asm_parse.specs.Mnemonics.{mnemonics, forms_named}
-use Rattle.asm_parse.specs.Assembly.{first_wrong, read_form, read_forms, directives, labels_of, behind_labels, first_twice, line_fault, after_line, after_lines, first_round, placed_from, line_fault_later, second_round, asm_fault, text_from, data_from, byte_at}
-use Rattle.asm_parse.specs.Examples.{ReadsInstructions, ReadsData, FindsFaults}
+use Rattle.asm_parse.specs.Operands.{take_more, take_exprs}
+use Rattle.asm_parse.specs.Mnemonics.{take_forms, mnemonics, forms_named}
+use Rattle.asm_parse.specs.Assembly.{first_of, directives, labels_of, behind_labels, first_twice, line_fault, step_of, after_step, steps_from, steps_of, names_of, placed_from, placed, later_fault, asm_fault, text_of, data_of, byte_at}
+use Rattle.asm_parse.specs.Examples.{ReadsInstructions, ReadsData, FindsFaults, Assembles}
 
 pub reads_instructions : ReadsInstructions
-unfolding is_name_byte is_blank kind_of is_strange code_of is_after_name is_within_run end_at token_at tokens_of lines_of digits_behind number_spelt register_named weights_behind fence_set take_slot take_others take_form take_more take_list mnemonics forms_named first_wrong read_form read_forms directives labels_of behind_labels first_twice line_fault after_line after_lines first_round placed_from line_fault_later second_round asm_fault text_from data_from byte_at
+unfolding is_name_byte is_blank kind_of is_strange code_of is_after_name is_within_run end_at token_at tokens_of lines_of digits_behind number_spelt register_named weights_behind fence_set take_more take_exprs take_forms mnemonics forms_named first_of directives labels_of behind_labels first_twice line_fault step_of after_step steps_from steps_of names_of placed_from placed later_fault asm_fault text_of data_of
 reads_instructions = record {
   adds = refl;
   li_12_bits = refl;
@@ -34,7 +40,7 @@ reads_instructions = record {
 }
 
 pub reads_data : ReadsData
-unfolding is_name_byte is_blank kind_of is_strange code_of is_after_name is_within_run end_at token_at tokens_of lines_of digits_behind number_spelt register_named weights_behind fence_set take_slot take_others take_form take_more take_list mnemonics forms_named first_wrong read_form read_forms directives labels_of behind_labels first_twice line_fault after_line after_lines first_round placed_from line_fault_later second_round asm_fault text_from data_from byte_at
+unfolding is_name_byte is_blank kind_of is_strange code_of is_after_name is_within_run end_at token_at tokens_of lines_of digits_behind number_spelt register_named weights_behind fence_set take_more take_exprs take_forms mnemonics forms_named first_of directives labels_of behind_labels first_twice line_fault step_of after_step steps_from steps_of names_of placed_from placed later_fault asm_fault text_of data_of
 reads_data = record {
   words = refl;
   names = refl;
@@ -43,7 +49,7 @@ reads_data = record {
 }
 
 pub finds_faults : FindsFaults
-unfolding is_name_byte is_blank kind_of is_strange code_of is_after_name is_within_run end_at token_at tokens_of lines_of digits_behind number_spelt register_named weights_behind fence_set take_slot take_others take_form take_more take_list mnemonics forms_named first_wrong read_form read_forms directives labels_of behind_labels first_twice line_fault after_line after_lines first_round placed_from line_fault_later second_round asm_fault text_from data_from byte_at
+unfolding is_name_byte is_blank kind_of is_strange code_of is_after_name is_within_run end_at token_at tokens_of lines_of digits_behind number_spelt register_named weights_behind fence_set take_more take_exprs take_forms mnemonics forms_named first_of directives labels_of behind_labels first_twice line_fault step_of after_step steps_from steps_of names_of placed_from placed later_fault asm_fault text_of data_of
 finds_faults = record {
   character = refl;
   word = refl;
@@ -83,4 +89,31 @@ finds_faults = record {
   far = refl;
   too_far = refl;
   return = refl;
+}
+
+encodes : (word : ℕ) (instr : Instr) → word < 2 ^ 32 → instr_of word ≡ Some instr → IsEncodingOf word instr
+encodes word instr within read = (reads_one_way word instr within).1 read
+
+encodes_addi : IsEncodingOf 0x00700293 (OpImm Addi 5 0 (pos 7))
+unfolding instr_of
+encodes_addi = encodes 0x00700293 (OpImm Addi 5 0 (pos 7)) (omega arith) refl
+
+encodes_ecall : IsEncodingOf 0x00000073 Ecall
+unfolding instr_of
+encodes_ecall = encodes 0x00000073 Ecall (omega arith) refl
+
+pub assembles : Assembles
+unfolding is_name_byte is_blank kind_of is_strange code_of is_after_name is_within_run end_at token_at tokens_of lines_of digits_behind number_spelt register_named weights_behind fence_set take_more take_exprs take_forms mnemonics forms_named first_of directives labels_of behind_labels first_twice line_fault step_of after_step steps_from steps_of names_of placed_from placed later_fault asm_fault text_of data_of byte_at
+assembles = record {
+  adds = record {
+    faultless = refl;
+    within = record {
+      text = omega arith;
+      words = All-cons (λ word. word < 2 ^ 32) 0x00700293 (0x00000073 ∷ []) (omega arith) (All-cons (λ word. word < 2 ^ 32) 0x00000073 [] (omega arith) (All-nil (λ word. word < 2 ^ 32)));
+      pieces = tt;
+      bytes = All-nil (λ piece. All (λ byte. byte < 256) piece.bytes);
+    };
+    text = (encodes_addi, (encodes_ecall, tt));
+    memory = λ address. refl;
+  };
 }

@@ -1,8 +1,8 @@
 -- What a source means: an image, or the first fault of two rounds over its lines. The first round reads each line, gives it
 -- its place and defines its names; the second gives names their values.
-use Rattle.std.specs.Prelude.{◌≡◌, ℕ, ◌+◌, ◌-◌, ◌*◌, ◌/◌, ◌%◌, ◌<◌, ℤ, pos, neg_ℤ, ◌-ℤ◌, Bool, true, false, not, ◌&&◌, ◌||◌, ◌==◌, nat_lt, nat_le, if◌then◌else◌, List, [], ◌∷◌, ◌++◌, map, length, codes, Option, Some, None, is_some, is_none, replicate, slice_get, ⊤}
+use Rattle.std.specs.Prelude.{◌≡◌, ℕ, ◌+◌, ◌-◌, ◌*◌, ◌/◌, ℤ, pos, neg_ℤ, ◌-ℤ◌, Bool, true, false, not, ◌&&◌, nat_lt, nat_le, if◌then◌else◌, List, [], ◌∷◌, ◌++◌, map, length, codes, Option, Some, None, is_none, replicate, slice_get}
 use Rattle.std.specs.Option.{option_map}
-use Rattle.std.specs.List.{find, flat_map, list_any, position, range_with_len, sum_by}
+use Rattle.std.specs.List.{AllZip, filter, find, flat_map, list_any, position, range_with_len, sum_by}
 use Rattle.std.specs.Str.{bytes_eq}
 use Rattle.pmsi_model.specs.declared.limits.TheConstants.{MAX_TEXT_WORDS, MAX_MEMORY}
 use Rattle.pmsi_model.specs.Image.{ImageValue, IsImage}
@@ -16,129 +16,101 @@ use Rattle.asm_parse.specs.declared.fault.AsmFault.TheVariants.{At}
 use Rattle.asm_parse.specs.Tokens.{code_of, is_strange}
 use Rattle.asm_parse.specs.Lines.{lines_of}
 use Rattle.asm_parse.specs.Numbers.{is_between, is_number, value_in}
-use Rattle.asm_parse.specs.Operands.{Lexeme, lexemes_of, has_kind, Took, Taken, Stuck, take_form, take_list, take_end, Expr, Literal, Value, Plain, Symbol, Operand, ExprIs, LiteralIs, SymbolIs, expr_value}
-use Rattle.asm_parse.specs.Mnemonics.{Code, Instruction, Raw, Item, Known, Numbered, Distant, Form, forms_named}
+use Rattle.asm_parse.specs.Operands.{Lexeme, lexemes_of, has_kind, Took, Taken, Stuck, then_take, take_kind, take_next, take_literal, take_exprs, ends, Expr, Literal, expr_value}
+use Rattle.asm_parse.specs.Mnemonics.{Code, Instruction, Raw, Item, Known, Numbered, Distant, Form, take_forms, forms_named}
 
 -- ---- where a line stands
 
--- the space that lines go to, how many words of text there are, and the next address of data
+-- the space that lines go to, and the next addresses of text and of data
 pub record Place : Type 0 where
   pub in_data : Bool
-  pub words : ℕ
-  pub address : ℕ
+  pub text : ℕ
+  pub memory : ℕ
 
 abbrev pub here : Place → ℕ
-here place = if place.in_data then place.address else 4 * place.words
+here place = if place.in_data then place.memory else place.text
 
--- what the lines before have left: the place, the names of labels and `.equ`, those of `.equ` alone, and the bytes that are
--- named, as addresses with how many bytes begin there
+-- what the lines before have left: the place, the names of labels and `.equ`, those of `.equ` alone, and the runs of bytes
+-- that data has, as addresses with how many bytes begin there
 pub record Before : Type 0 where
   pub place : Place
   pub names : List (List ℕ × ℤ)
   pub equs : List (List ℕ × ℤ)
-  pub named : List (ℕ × ℕ)
+  pub runs : List (ℕ × ℕ)
 
 abbrev pub at_start : Before
-at_start = record { place = record { in_data = false; words = 0; address = 0 }; names = []; equs = []; named = [] }
+at_start = record { place = record { in_data = false; text = 0; memory = 0 }; names = []; equs = []; runs = [] }
 
 -- ---- what a line does
 
 pub data Statement : Type 0 where
   Nothing : Statement
-  Switch : Bool → Statement
+  Switch : Bool → Statement  -- the next lines go to data, or to text
   Emit : List (ℕ × Item) → Statement  -- items, each with its bytes
   Zeros : ℕ → Statement
-  MoveTo : ℕ → Statement
+  MoveTo : ℕ → Statement  -- the next address of data
   Define : Lexeme → ℤ → Statement
 
--- a statement as it was read: the operands or what doesn't fit, a number that is wrong with its column, and what it does
-pub record Read : Type 0 where
-  pub stuck : Option (List Lexeme)
-  pub wrong : Option ℕ
-  pub does : Statement
-
-abbrev pub misfit : List Lexeme → Read
-misfit xs = record { stuck = Some xs; wrong = None; does = Nothing }
+-- a statement as it was read: the tokens from the one on that doesn't fit; or the column of a wrong number, if there is one,
+-- and what is done
+pub data Reading : Type 0 where
+  Misfit : List Lexeme → Reading
+  Reads : Option ℕ → Statement → Reading
 
 -- ---- numbers that are known at once
 
-abbrev pub if_wrong : Bool → ℕ → Option ℕ
-if_wrong true column = None
-if_wrong false column = Some column
+-- the first that is there
+unfoldable pub first_of : {A : Type 0} → List (Option A) → Option A
+first_of [] = None
+first_of (None ∷ others) = first_of others
+first_of (Some a ∷ others) = Some a
 
 -- a number without a name: misspelt or too wide, or out of its own range
 abbrev pub wrong_number : Option (List ℕ) → Option ℤ → ℕ → ℕ → (ℤ → Bool) → Option ℕ
 wrong_number (Some name) number column at fits = None
 wrong_number None None column at fits = Some column
-wrong_number None (Some n) column at fits = if_wrong (fits n) at
+wrong_number None (Some n) column at fits = if fits n then None else Some at
 
 abbrev pub wrong_item : Item → Option ℕ
 wrong_item (Known code) = None
 wrong_item (Numbered expr at fits gives) = wrong_number expr.name expr.number expr.column at fits
 wrong_item (Distant expr fits gives) = wrong_number expr.name expr.number expr.column expr.column (λ _. true)
 
-abbrev pub or_else : {A : Type 0} → Option A → Option A → Option A
-or_else (Some a) other = Some a
-or_else None other = other
-
-unfoldable pub first_wrong : List Item → Option ℕ
-first_wrong [] = None
-first_wrong (item ∷ items) = or_else (wrong_item item) (first_wrong items)
+abbrev pub first_wrong : List Item → Option ℕ
+first_wrong items = first_of (map wrong_item items)
 
 -- ---- reading a statement
 
-abbrev pub emits : ℕ → List Item → Statement
-emits width items = Emit (map (λ item. (width, item)) items)
-
-abbrev pub read_items : ℕ → (List Operand → List Item) → Took (List Operand) → Read
-read_items width items (Taken operands xs) = record { stuck = None; wrong = first_wrong (items operands); does = emits width (items operands) }
-read_items width items (Stuck xs) = misfit xs
-
--- a mnemonic by its forms: the first that fits, or how far one goes
-unfoldable pub read_form : List (List ℕ × ℤ) → Form → List Lexeme → Read
-read_form equs form xs = read_items 4 form.items (take_form equs form.slots xs)
-
-abbrev pub length_stuck : Option (List Lexeme) → ℕ
-length_stuck None = 0
-length_stuck (Some xs) = length xs
-
-abbrev pub further_read : Read → Read → Read
-further_read one other = if is_none one.stuck || (is_some other.stuck && nat_lt (length_stuck one.stuck) (length_stuck other.stuck)) then one else other
-
-unfoldable pub read_forms : List (List ℕ × ℤ) → List Form → List Lexeme → Read
-read_forms equs [] xs = misfit xs
-read_forms equs (form ∷ forms) xs = further_read (read_form equs form xs) (read_forms equs forms xs)
+-- items of so many bytes each
+abbrev pub read_items : ℕ → Took (List Item) → Reading
+read_items width (Taken items xs) = Reads (first_wrong items) (Emit (map (λ item. (width, item)) items))
+read_items width (Stuck xs) = Misfit xs
 
 -- ---- directives
+
+abbrev pub read_plain : Took Statement → Reading
+read_plain (Taken does xs) = Reads None does
+read_plain (Stuck xs) = Misfit xs
 
 -- what a number does, where there is one
 abbrev pub number_does : (ℤ → Statement) → Option ℤ → Statement
 number_does does None = Nothing
 number_does does (Some n) = does n
 
-abbrev pub literal_of : List Operand → Option Literal
-literal_of (LiteralIs n ∷ []) = Some n
-literal_of operands = None
+abbrev pub read_literal : (ℤ → Bool) → (ℤ → Statement) → Took Literal → Reading
+read_literal fits does (Taken n xs) = Reads (wrong_number None n.value n.column n.column fits) (number_does does n.value)
+read_literal fits does (Stuck xs) = Misfit xs
 
-abbrev pub with_number : (ℤ → Bool) → (ℤ → Statement) → Option Literal → Read
-with_number fits does None = misfit []
-with_number fits does (Some n) = record { stuck = None; wrong = wrong_number None n.value n.column n.column fits; does = number_does does n.value }
+-- one number
+abbrev pub read_number : (ℤ → Bool) → (ℤ → Statement) → List Lexeme → Reading
+read_number fits does xs = read_literal fits does (then_take (take_literal xs) ends)
 
-abbrev pub read_number : (ℤ → Bool) → (ℤ → Statement) → Took (List Operand) → Read
-read_number fits does (Taken operands xs) = with_number fits does (literal_of operands)
-read_number fits does (Stuck xs) = misfit xs
+abbrev pub number_item : ℕ → (ℤ → Bool) → Expr → Item
+number_item width fits expr = Numbered expr expr.column fits (λ n. Raw width (word_of n))
 
-abbrev pub read_plain : Statement → Took (List Operand) → Read
-read_plain does (Taken operands xs) = record { stuck = None; wrong = None; does = does }
-read_plain does (Stuck xs) = misfit xs
-
--- a number of so many bytes
-abbrev pub data_item : ℕ → (ℤ → Bool) → Operand → List Item
-data_item width fits (ExprIs expr) = Numbered expr expr.column fits (λ n. Raw width (word_of n)) ∷ []
-data_item width fits operand = []
-
-abbrev pub read_numbers : List (List ℕ × ℤ) → ℕ → (ℤ → Bool) → List Lexeme → Read
-read_numbers equs width fits xs = read_items width (flat_map (data_item width fits)) (take_list equs Value xs)
+-- numbers of so many bytes each
+abbrev pub read_numbers : ℕ → (ℤ → Bool) → List Lexeme → Reading
+read_numbers width fits xs = read_items width (then_take (take_exprs xs) (λ exprs rest. Taken (map (number_item width fits) exprs) rest))
 
 abbrev pub is_half : ℤ → Bool
 is_half n = is_between (neg_ℤ (pos 32768)) (pos 65535) n
@@ -159,39 +131,37 @@ is_alignment n = list_any (λ a. is_between a a n) alignments
 abbrev pub aligned : ℕ → ℕ → ℕ
 aligned address to = (address + (to - 1)) / to * to
 
-abbrev pub define_as : Operand → Operand → Read
-define_as (SymbolIs name) (LiteralIs n) = record { stuck = None; wrong = wrong_number None n.value n.column n.column is_number; does = number_does (Define name) n.value }
-define_as one other = misfit []
+abbrev pub read_definition : Took (Lexeme × Literal) → Reading
+read_definition (Taken d xs) = Reads (wrong_number None d.1.value d.1.column d.1.column is_number) (number_does (Define d.0) d.1.value)
+read_definition (Stuck xs) = Misfit xs
 
-abbrev pub read_definition : Took (List Operand) → Read
-read_definition (Taken (name ∷ number ∷ []) xs) = define_as name number
-read_definition (Taken operands xs) = misfit xs
-read_definition (Stuck xs) = misfit xs
+abbrev pub take_definition : List Lexeme → Took (Lexeme × Literal)
+take_definition xs = then_take (take_kind Word xs) (λ name xs. then_take (take_next take_literal xs) (λ n xs. ends (name, n) xs))
 
 -- a directive: whether it is for data alone, and how its operands are read
 pub record Directive : Type 0 where
   pub data_only : Bool
-  pub reads : Before → List Lexeme → Read
+  pub reads : Place → List Lexeme → Reading
 
-abbrev pub everywhere : (Before → List Lexeme → Read) → Directive
-everywhere reads = record { data_only = false; reads = reads }
+abbrev pub everywhere : (List Lexeme → Reading) → Directive
+everywhere reads = record { data_only = false; reads = λ place. reads }
 
-abbrev pub for_data : (Before → List Lexeme → Read) → Directive
+abbrev pub for_data : (Place → List Lexeme → Reading) → Directive
 for_data reads = record { data_only = true; reads = reads }
 
 unfoldable pub directives : List (List ℕ × Directive)
 directives =
-    (codes ".text", everywhere (λ b xs. read_plain (Switch false) (take_end [] xs)))
-    ∷ (codes ".data", everywhere (λ b xs. read_plain (Switch true) (take_end [] xs)))
-    ∷ (codes ".org", for_data (λ b xs. read_number is_size (λ n. MoveTo (word_of n)) (take_form b.equs (Plain ∷ []) xs)))
-    ∷ (codes ".balign", for_data (λ b xs. read_number is_alignment (λ n. MoveTo (aligned b.place.address (word_of n))) (take_form b.equs (Plain ∷ []) xs)))
-    ∷ (codes ".word", everywhere (λ b xs. read_numbers b.equs 4 is_number xs))
-    ∷ (codes ".half", for_data (λ b xs. read_numbers b.equs 2 is_half xs))
-    ∷ (codes ".byte", for_data (λ b xs. read_numbers b.equs 1 is_byte xs))
-    ∷ (codes ".zero", for_data (λ b xs. read_number is_size (λ n. Zeros (word_of n)) (take_form b.equs (Plain ∷ []) xs)))
-    ∷ (codes ".equ", everywhere (λ b xs. read_definition (take_form b.equs (Symbol ∷ Plain ∷ []) xs)))
-    ∷ (codes ".globl", everywhere (λ b xs. read_plain Nothing (take_form b.equs (Symbol ∷ []) xs)))
-    ∷ (codes ".global", everywhere (λ b xs. read_plain Nothing (take_form b.equs (Symbol ∷ []) xs)))
+    (codes ".text", everywhere (λ xs. read_plain (ends (Switch false) xs)))
+    ∷ (codes ".data", everywhere (λ xs. read_plain (ends (Switch true) xs)))
+    ∷ (codes ".org", for_data (λ place xs. read_number is_size (λ n. MoveTo (word_of n)) xs))
+    ∷ (codes ".balign", for_data (λ place xs. read_number is_alignment (λ n. MoveTo (aligned place.memory (word_of n))) xs))
+    ∷ (codes ".word", everywhere (λ xs. read_numbers 4 is_number xs))
+    ∷ (codes ".half", for_data (λ place xs. read_numbers 2 is_half xs))
+    ∷ (codes ".byte", for_data (λ place xs. read_numbers 1 is_byte xs))
+    ∷ (codes ".zero", for_data (λ place xs. read_number is_size (λ n. Zeros (word_of n)) xs))
+    ∷ (codes ".equ", everywhere (λ xs. read_definition (take_definition xs)))
+    ∷ (codes ".globl", everywhere (λ xs. read_plain (then_take (take_kind Word xs) (λ _ xs. ends Nothing xs))))
+    ∷ (codes ".global", everywhere (λ xs. read_plain (then_take (take_kind Word xs) (λ _ xs. ends Nothing xs))))
     ∷ []
 
 -- ---- a line
@@ -212,18 +182,18 @@ behind_labels (x ∷ y ∷ xs) = if is_label x y then behind_labels xs else x �
 
 -- what a line's first word asks for
 pub data Asked : Type 0 where
-  NothingAsked : Asked
-  NoWord : ℕ → Asked
-  OtherSpace : ℕ → Asked
-  Asks : Read → Asked
+  NothingAsked : Asked  -- there is none
+  NoWord : ℕ → Asked  -- no mnemonic and no directive stands at this column
+  OtherSpace : ℕ → Asked  -- the one at this column may not stand in this space
+  Asks : Reading → Asked
 
 abbrev pub asked_directive : Before → Lexeme → List Lexeme → Option Directive → Asked
 asked_directive b x xs None = NoWord x.column
-asked_directive b x xs (Some d) = if d.data_only && not b.place.in_data then OtherSpace x.column else Asks (d.reads b xs)
+asked_directive b x xs (Some d) = if d.data_only && not b.place.in_data then OtherSpace x.column else Asks (d.reads b.place xs)
 
 abbrev pub asked_forms : Before → Lexeme → List Lexeme → Option (List Form) → Asked
 asked_forms b x xs None = asked_directive b x xs (value_in directives x.text)
-asked_forms b x xs (Some forms) = if b.place.in_data then OtherSpace x.column else Asks (read_forms b.equs forms xs)
+asked_forms b x xs (Some forms) = if b.place.in_data then OtherSpace x.column else Asks (read_items 4 (take_forms forms b.equs xs))
 
 abbrev pub asked : Before → List Lexeme → Asked
 asked b [] = NothingAsked
@@ -244,14 +214,15 @@ abbrev pub operand_fault : ℕ → Asked → Option AsmCause
 operand_fault end NothingAsked = None
 operand_fault end (NoWord column) = None
 operand_fault end (OtherSpace column) = Some (cause.Operand column)
-operand_fault end (Asks read) = option_map (λ xs. cause.Operand (column_of end xs)) read.stuck
+operand_fault end (Asks (Misfit xs)) = Some (cause.Operand (column_of end xs))
+operand_fault end (Asks (Reads wrong does)) = None
 
 abbrev pub number_fault : Asked → Option AsmCause
-number_fault (Asks read) = option_map (λ column. cause.Number column) read.wrong
+number_fault (Asks (Reads wrong does)) = option_map (λ column. cause.Number column) wrong
 number_fault asks = None
 
 abbrev pub statement_of : Asked → Statement
-statement_of (Asks read) = read.does
+statement_of (Asks (Reads wrong does)) = does
 statement_of asks = Nothing
 
 abbrev pub defined_by : Statement → List Lexeme
@@ -269,80 +240,80 @@ size_of (Zeros count) = count
 size_of does = 0
 
 abbrev pub text_fault : Place → Statement → Option AsmCause
-text_fault place does = if not place.in_data && nat_lt (4 * MAX_TEXT_WORDS) (4 * place.words + size_of does) then Some cause.TextLong else None
+text_fault place does = if not place.in_data && nat_lt (4 * MAX_TEXT_WORDS) (place.text + size_of does) then Some cause.TextLong else None
 
 abbrev pub range_fault : Place → Statement → Option AsmCause
 range_fault place (MoveTo address) = if nat_lt MAX_MEMORY address then Some (cause.Range address) else None
-range_fault place does = if place.in_data && nat_lt MAX_MEMORY (place.address + size_of does) then Some (cause.Range MAX_MEMORY) else None
+range_fault place does = if place.in_data && nat_lt MAX_MEMORY (place.memory + size_of does) then Some (cause.Range MAX_MEMORY) else None
 
-abbrev pub is_named : List (ℕ × ℕ) → ℕ → Bool
-is_named named address = list_any (λ n. nat_le n.0 address && nat_lt address (n.0 + n.1)) named
+abbrev pub has_byte : List (ℕ × ℕ) → ℕ → Bool
+has_byte runs address = list_any (λ run. nat_le run.0 address && nat_lt address (run.0 + run.1)) runs
 
 abbrev pub overlap_fault : Before → Statement → Option AsmCause
 overlap_fault b does =
-    if b.place.in_data then option_map (λ address. cause.Overlap address) (find (is_named b.named) (range_with_len b.place.address (size_of does))) else None
+    if b.place.in_data then option_map (λ address. cause.Overlap address) (find (has_byte b.runs) (range_with_len b.place.memory (size_of does))) else None
 
--- the checks of a line, in their order
-abbrev pub first_of : List (Option AsmCause) → Option AsmCause
-first_of [] = None
-first_of (None ∷ faults) = first_of faults
-first_of (Some fault ∷ faults) = Some fault
+-- ---- a step: what a line is in its place
 
-unfoldable pub line_fault : Before → List ℕ → Option AsmCause
-line_fault b line =
-    let code = code_of line in
-    let tokens = lexemes_of code in
-    let asks = asked b (behind_labels tokens) in
+pub record Step : Type 0 where
+  pub number : ℕ  -- the line's, from 1 on
+  pub place : Place  -- where it stands, before it does anything
+  pub labels : List Lexeme
+  pub does : Statement
+  pub fault : Option AsmCause  -- of the first round
+
+-- the causes of the first round, in their order
+unfoldable pub line_fault : Before → List ℕ → Asked → List Lexeme → Option AsmCause
+line_fault b line asks labels =
     let does = statement_of asks in
-    first_of (option_map (λ place. cause.Character (place + 1)) (position is_strange code)
+    first_of (option_map (λ place. cause.Character (place + 1)) (position is_strange (code_of line))
     ∷ word_fault asks
     ∷ operand_fault (length line + 1) asks
     ∷ number_fault asks
-    ∷ first_twice (map (λ name. name.0) b.names) (labels_of tokens ++ defined_by does)
+    ∷ first_twice (map (λ name. name.0) b.names) (labels ++ defined_by does)
     ∷ text_fault b.place does
     ∷ range_fault b.place does
     ∷ overlap_fault b does
     ∷ [])
 
--- ---- what a line leaves for the next ones
+unfoldable pub step_of : ℕ → Before → List ℕ → Step
+step_of number b line =
+    let tokens = lexemes_of (code_of line) in
+    let asks = asked b (behind_labels tokens) in
+    record { number = number; place = b.place; labels = labels_of tokens; does = statement_of asks; fault = line_fault b line asks (labels_of tokens) }
+
+-- ---- what a step leaves for the next ones
 
 abbrev pub moved : Statement → Place → Place
 moved (Switch in_data) place = record place { in_data = in_data }
-moved (MoveTo address) place = record place { address = address }
-moved does place = if place.in_data then record place { address = place.address + size_of does } else record place { words = place.words + size_of does / 4 }
+moved (MoveTo address) place = record place { memory = address }
+moved does place = if place.in_data then record place { memory = place.memory + size_of does } else record place { text = place.text + size_of does }
 
 abbrev pub equs_of : Statement → List (List ℕ × ℤ)
 equs_of (Define name n) = (name.text, n) ∷ []
 equs_of does = []
 
-abbrev pub named_by : Place → Statement → List (ℕ × ℕ)
-named_by place does = if place.in_data && nat_lt 0 (size_of does) then (place.address, size_of does) ∷ [] else []
+-- the names that a step defines, with their values
+abbrev pub names_by : Step → List (List ℕ × ℤ)
+names_by step = map (λ x. (x.text, pos (here step.place))) step.labels ++ equs_of step.does
 
-abbrev pub statement_at : Before → List ℕ → Statement
-statement_at b line = statement_of (asked b (behind_labels (lexemes_of (code_of line))))
+abbrev pub run_by : Step → List (ℕ × ℕ)
+run_by step = if step.place.in_data && nat_lt 0 (size_of step.does) then (step.place.memory, size_of step.does) ∷ [] else []
 
-unfoldable pub after_line : Before → List ℕ → Before
-after_line b line =
-    let does = statement_at b line in
-    record {
-      place = moved does b.place;
-      names = b.names ++ map (λ x. (x.text, pos (here b.place))) (labels_of (lexemes_of (code_of line))) ++ equs_of does;
-      equs = b.equs ++ equs_of does;
-      named = named_by b.place does ++ b.named;
-    }
+unfoldable pub after_step : Before → Step → Before
+after_step b step = record { place = moved step.does step.place; names = b.names ++ names_by step; equs = b.equs ++ equs_of step.does; runs = run_by step ++ b.runs }
 
-unfoldable pub after_lines : Before → List (List ℕ) → Before
-after_lines b [] = b
-after_lines b (line ∷ lines) = after_lines (after_line b line) lines
+unfoldable pub steps_from : ℕ → Before → List (List ℕ) → List Step
+steps_from number b [] = []
+steps_from number b (line ∷ lines) = let step = step_of number b line in step ∷ steps_from (number + 1) (after_step b step) lines
 
--- the first line with a fault
-abbrev pub at_line : ℕ → Option AsmCause → Option AsmFault → Option AsmFault
-at_line number None others = others
-at_line number (Some c) others = Some (At number c)
+-- the lines of a source, each in its place
+unfoldable pub steps_of : List ℕ → List Step
+steps_of source = steps_from 1 at_start (lines_of source)
 
-unfoldable pub first_round : ℕ → Before → List (List ℕ) → Option AsmFault
-first_round number b [] = None
-first_round number b (line ∷ lines) = at_line number (line_fault b line) (first_round (number + 1) (after_line b line) lines)
+-- all names
+unfoldable pub names_of : List Step → List (List ℕ × ℤ)
+names_of steps = flat_map names_by steps
 
 -- ---- the second round
 
@@ -377,7 +348,7 @@ reach_fault names own (Known code) = None
 reach_fault names own (Numbered expr at fits gives) = None
 reach_fault names own (Distant expr fits gives) = distance_fault own fits (expr_value names expr)
 
--- the items of a statement, each with its address
+-- the items of a step, each with its address
 unfoldable pub placed_from : ℕ → List (ℕ × Item) → List (ℕ × Item)
 placed_from address [] = []
 placed_from address (item ∷ items) = (address, item.1) ∷ placed_from (address + item.0) items
@@ -386,83 +357,82 @@ abbrev pub items_of : Statement → List (ℕ × Item)
 items_of (Emit items) = items
 items_of does = []
 
-abbrev pub placed : Before → List ℕ → List (ℕ × Item)
-placed b line = placed_from (here b.place) (items_of (statement_at b line))
+unfoldable pub placed : Step → List (ℕ × Item)
+placed step = placed_from (here step.place) (items_of step.does)
 
-unfoldable pub line_fault_later : List (List ℕ × ℤ) → List (ℕ × Item) → Option AsmCause
-line_fault_later names items =
-    first_of (map (λ item. unknown_item names item.1) items
-    ++ map (λ item. named_number_fault names item.1) items
-    ++ map (λ item. reach_fault names (pos item.0) item.1) items)
-
-unfoldable pub second_round : List (List ℕ × ℤ) → ℕ → Before → List (List ℕ) → Option AsmFault
-second_round names number b [] = None
-second_round names number b (line ∷ lines) = at_line number (line_fault_later names (placed b line)) (second_round names (number + 1) (after_line b line) lines)
+-- the causes of the second round, in their order
+unfoldable pub later_fault : List (List ℕ × ℤ) → Step → Option AsmCause
+later_fault names step =
+    first_of (map (λ item. unknown_item names item.1) (placed step)
+    ++ map (λ item. named_number_fault names item.1) (placed step)
+    ++ map (λ item. reach_fault names (pos item.0) item.1) (placed step))
 
 -- ---- faults and images
 
+abbrev pub at_line : ℕ → Option AsmCause → Option AsmFault
+at_line number found = option_map (λ c. At number c) found
+
+-- the first step with a fault
+abbrev pub first_fault : (Step → Option AsmCause) → List Step → Option AsmFault
+first_fault fault steps = first_of (map (λ step. at_line step.number (fault step)) steps)
+
+-- the first round's fault, or else the second's
 unfoldable pub asm_fault : List ℕ → Option AsmFault
-asm_fault source =
-    let lines = lines_of source in
-    or_else (first_round 1 at_start lines) (second_round (after_lines at_start lines).names 1 at_start lines)
+asm_fault source = let steps = steps_of source in first_of (first_fault (λ step. step.fault) steps ∷ first_fault (later_fault (names_of steps)) steps ∷ [])
 
 abbrev pub HasAsmFault : List ℕ → AsmFault → Type 0
 HasAsmFault source fault = asm_fault source ≡ Some fault
 
--- what an item comes to at its address
 abbrev pub value_or_zero : Option ℤ → ℤ
 value_or_zero None = pos 0
 value_or_zero (Some n) = n
 
+-- what an item comes to at its address
 abbrev pub code_at : List (List ℕ × ℤ) → ℕ → Item → Code
 code_at names address (Known code) = code
 code_at names address (Numbered expr at fits gives) = gives (value_or_zero (expr_value names expr))
 code_at names address (Distant expr fits gives) = gives (value_or_zero (expr_value names expr) -ℤ pos address)
 
--- what the text lines come to, in order
-unfoldable pub text_from : List (List ℕ × ℤ) → Before → List (List ℕ) → List Code
-text_from names b [] = []
-text_from names b (line ∷ lines) =
-    (if b.place.in_data then [] else map (λ item. code_at names item.0 item.1) (placed b line)) ++ text_from names (after_line b line) lines
+abbrev pub codes_of : List (List ℕ × ℤ) → Step → List Code
+codes_of names step = map (λ item. code_at names item.0 item.1) (placed step)
 
--- the bytes of data, as runs of bytes with their addresses
+-- what the lines of text come to, in order
+unfoldable pub text_of : List ℕ → List Code
+text_of source = let steps = steps_of source in flat_map (codes_of (names_of steps)) (filter (λ step. not step.place.in_data) steps)
+
 abbrev pub code_bytes : Code → List ℕ
 code_bytes (Instruction instr) = []
 code_bytes (Raw width n) = bytes_of width n
 
-abbrev pub data_bytes : List (List ℕ × ℤ) → Before → List ℕ → Statement → List ℕ
-data_bytes names b line (Zeros count) = replicate count 0
-data_bytes names b line does = flat_map (λ item. code_bytes (code_at names item.0 item.1)) (placed b line)
+abbrev pub zeros_of : Statement → List ℕ
+zeros_of (Zeros count) = replicate count 0
+zeros_of does = []
 
-unfoldable pub data_from : List (List ℕ × ℤ) → Before → List (List ℕ) → List (ℕ × List ℕ)
-data_from names b [] = []
-data_from names b (line ∷ lines) =
-    (if b.place.in_data then (b.place.address, data_bytes names b line (statement_at b line)) ∷ [] else []) ++ data_from names (after_line b line) lines
+-- the bytes of a line of data
+abbrev pub bytes_by : List (List ℕ × ℤ) → Step → List ℕ
+bytes_by names step = zeros_of step.does ++ flat_map code_bytes (codes_of names step)
 
--- the byte at an address, of runs that don't overlap
+-- the bytes that the lines of data name, line by line with their addresses
+unfoldable pub data_of : List ℕ → List (ℕ × List ℕ)
+data_of source =
+    let steps = steps_of source in map (λ step. (step.place.memory, bytes_by (names_of steps) step)) (filter (λ step. step.place.in_data) steps)
+
 abbrev pub byte_in : ℕ → ℕ × List ℕ → Option ℕ
 byte_in address run = if nat_le run.0 address then slice_get run.1 (address - run.0) else None
 
+-- the byte at an address, of runs that don't overlap
 unfoldable pub byte_at : List (ℕ × List ℕ) → ℕ → Option ℕ
-byte_at [] address = None
-byte_at (run ∷ runs) address = or_else (byte_in address run) (byte_at runs address)
+byte_at runs address = first_of (map (byte_in address) runs)
 
 -- a word of text is that of its instruction, by the instruction table, or the number itself
 abbrev pub IsWordOf : Code → ℕ → Type 0
 IsWordOf (Instruction instr) word = IsEncodingOf word instr
 IsWordOf (Raw width n) word = word ≡ n
 
-abbrev pub AreWordsOf : List Code → List ℕ → Type 0
-AreWordsOf [] [] = ⊤
-AreWordsOf [] (word ∷ words) = ⊥
-AreWordsOf (code ∷ others) [] = ⊥
-AreWordsOf (code ∷ others) (word ∷ words) = IsWordOf code word × AreWordsOf others words
-
 -- the image of a source: it has no fault, the words of text are those of its lines, and memory has the bytes that are named
 -- and no others
 pub record IsAssembled (source : List ℕ) (image : ImageValue) : Type 0 where
   pub faultless : asm_fault source ≡ None
   pub within : IsImage image
-  pub text : AreWordsOf (text_from (after_lines at_start (lines_of source)).names at_start (lines_of source)) image.text
-  pub memory : (address : ℕ) → byte_at (map (λ piece. (piece.address, piece.bytes)) image.pieces) address
-      ≡ byte_at (data_from (after_lines at_start (lines_of source)).names at_start (lines_of source)) address
+  pub text : AllZip IsWordOf (text_of source) image.text
+  pub memory : (address : ℕ) → byte_at (map (λ piece. (piece.address, piece.bytes)) image.pieces) address ≡ byte_at (data_of source) address

@@ -11,17 +11,8 @@ use Rattle.asm_parse.specs.declared.fault.AsmCause.{AsmCause}
 use Rattle.asm_parse.specs.declared.fault.AsmCause.TheVariants as cause
 use Rattle.asm_parse.specs.declared.fault.AsmFault.{AsmFault}
 use Rattle.asm_parse.specs.declared.fault.AsmFault.TheVariants.{At}
-use Rattle.asm_parse.specs.Lines.{lines_of}
 use Rattle.asm_parse.specs.Mnemonics.{Code, Instruction, Raw}
-use Rattle.asm_parse.specs.Assembly.{asm_fault, after_lines, at_start, text_from, data_from}
-
--- what a source puts into text
-abbrev pub text_of : List ℕ → List Code
-text_of source = text_from (after_lines at_start (lines_of source)).names at_start (lines_of source)
-
--- the bytes that its lines of data name, line by line, with their addresses
-abbrev pub bytes_of_data : List ℕ → List (ℕ × List ℕ)
-bytes_of_data source = data_from (after_lines at_start (lines_of source)).names at_start (lines_of source)
+use Rattle.asm_parse.specs.Assembly.{asm_fault, text_of, data_of, IsAssembled}
 
 abbrev pub instrs : List Instr → List Code
 instrs is = map (λ i. Instruction i) is
@@ -53,9 +44,9 @@ pub record ReadsInstructions : Type 0 where
   pub word : text_of (codes ".word -1") ≡ Raw 4 0xffffffff ∷ []
 
 pub record ReadsData : Type 0 where
-  pub words : bytes_of_data (codes ".data\n.word 0x11223344, 1\n.half 0x5566\n") ≡ (0, 0x44 ∷ 0x33 ∷ 0x22 ∷ 0x11 ∷ 1 ∷ 0 ∷ 0 ∷ 0 ∷ []) ∷ (8, 0x66 ∷ 0x55 ∷ []) ∷ []
-  pub names : bytes_of_data (codes ".equ a, 3\n.data\n.byte a - -5, b\n.balign 8\nb: .zero 2\n") ≡ (0, 8 ∷ 8 ∷ []) ∷ (2, []) ∷ (8, 0 ∷ 0 ∷ []) ∷ []
-  pub moves : bytes_of_data (codes ".data\n.org 16\n.byte -1\n.text\nnop\n.data\n.byte 2") ≡ (0, []) ∷ (16, 255 ∷ []) ∷ (17, []) ∷ (17, 2 ∷ []) ∷ []
+  pub words : data_of (codes ".data\n.word 0x11223344, 1\n.half 0x5566\n") ≡ (0, 0x44 ∷ 0x33 ∷ 0x22 ∷ 0x11 ∷ 1 ∷ 0 ∷ 0 ∷ 0 ∷ []) ∷ (8, 0x66 ∷ 0x55 ∷ []) ∷ []
+  pub names : data_of (codes ".equ a, 3\n.data\n.byte a - -5, b\n.balign 8\nb: .zero 2\n") ≡ (0, 8 ∷ 8 ∷ []) ∷ (2, []) ∷ (8, 0 ∷ 0 ∷ []) ∷ []
+  pub moves : data_of (codes ".data\n.org 16\n.byte -1\n.text\nnop\n.data\n.byte 2") ≡ (0, []) ∷ (16, 255 ∷ []) ∷ (17, []) ∷ (17, 2 ∷ []) ∷ []
   pub limit : asm_fault (codes ".data\n.org 1048576\n.zero 0\n") ≡ None
 
 pub record FindsFaults : Type 0 where
@@ -97,3 +88,7 @@ pub record FindsFaults : Type 0 where
   pub far : asm_fault (codes "j 4294967295") ≡ at 1 (cause.Reach (pos 4294967295))
   pub too_far : asm_fault (codes "beq x0, x0, 4096") ≡ at 1 (cause.Reach (pos 4096))
   pub return : asm_fault (codes "nop\r\nnop\r") ≡ at 2 (cause.Character 4)
+
+-- a source and its image
+pub record Assembles : Type 0 where
+  pub adds : IsAssembled (codes "addi x5, x0, 7\necall\n") (record { text = 0x00700293 ∷ 0x00000073 ∷ []; pieces = [] })

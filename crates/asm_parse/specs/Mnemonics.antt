@@ -1,7 +1,7 @@
 -- Instructions and pseudo-instructions: the forms of each, and the instructions that it stands for. Names of instructions
--- and operands are those of the RISC-V Unprivileged ISA, version 20191213. Pseudo-instructions are those of its chapter 25,
--- but for two: `call` is one jump, and `la` gives an absolute address.
-use Rattle.std.specs.Prelude.{ℕ, ◌+◌, ◌-◌, ◌*◌, ◌/◌, ◌%◌, ◌^◌, ℤ, pos, negsuc, neg_ℤ, Bool, true, false, not, ◌&&◌, ◌==◌, if◌then◌else◌, List, [], ◌∷◌, ◌++◌, map, codes, Option, Some, None}
+-- and operands are those of the RISC-V Unprivileged ISA, version 20191213. Pseudo-instructions are from its chapter 25; here
+-- `call` is one jump, and `la` gives an absolute address.
+use Rattle.std.specs.Prelude.{ℕ, ◌+◌, ◌-◌, ◌*◌, ◌/◌, ◌%◌, ◌^◌, ℤ, pos, negsuc, neg_ℤ, Bool, true, false, ◌&&◌, ◌==◌, if◌then◌else◌, List, [], ◌∷◌, ◌++◌, map, codes, Option, Some, None}
 use Rattle.std.specs.List.{flat_map}
 use Rattle.std.specs.Int.{w32, cast_signed}
 use Rattle.pmsi_model.specs.declared.instr.Instr.{Instr}
@@ -20,7 +20,7 @@ use Rattle.pmsi_model.specs.declared.instr.AmoOp.{AmoOp}
 use Rattle.pmsi_model.specs.declared.instr.AmoOp.TheVariants.{Amoadd, Amoswap, Amoxor, Amoor, Amoand, Amomin, Amomax, Amominu, Amomaxu}
 use Rattle.pmsi_model.specs.Words.{word_of, signed, wrapped}
 use Rattle.asm_parse.specs.Numbers.{is_between, is_number, value_in}
-use Rattle.asm_parse.specs.Operands.{Expr, Imm, Part, Whole, High, Low, Slot, Register, Immediate, Memory, Base, Value, Constant, Fences, Operand, Reg, ImmIs, MemoryAt, ExprIs, ConstantIs, FencesAre}
+use Rattle.asm_parse.specs.Operands.{Lexeme, Took, Stuck, then_take, Expr, Imm, Part, Whole, High, Low, take_expr, take_imm, take_register, take_memory, take_base, take_fences, take_constant, ends, take_next, further}
 
 -- ---- what a line puts into text or data
 
@@ -29,9 +29,8 @@ pub data Code : Type 0 where
   Instruction : Instr → Code
   Raw : ℕ → ℕ → Code
 
--- it is known; or it has a number whose value is known once all names are, and which must fit, else there is a fault at the
--- column that is given (a misspelt number alone is blamed at its own); or it has the distance from its own address to a
--- target, which must be within reach
+-- it is known; or it comes from an expression, whose value is known once all names are and must fit, else the column that is
+-- given is blamed (a misspelt number alone is blamed at its own); or from the distance to a target, which must be within reach
 pub data Item : Type 0 where
   Known : Code → Item
   Numbered : Expr → ℕ → (ℤ → Bool) → (ℤ → Code) → Item
@@ -85,93 +84,62 @@ ready instr = Known (Instruction instr) ∷ []
 
 -- ---- forms
 
--- the slots of a form, and what it stands for
-pub record Form : Type 0 where
-  pub slots : List Slot
-  pub items : List Operand → List Item
+-- what a form takes, with the names of `.equ` that stand before, and what it stands for. The forms are named by their
+-- operands: registers r, an immediate i, an address m, that of an AMO b, an expression e, a constant c, sets of a fence f
+abbrev pub Form : Type 0
+Form = List (List ℕ × ℤ) → List Lexeme → Took (List Item)
 
 abbrev pub no_operands : List Item → Form
-no_operands items = record { slots = []; items = λ _. items }
-
-abbrev pub of_r : (ℕ → List Item) → List Operand → List Item
-of_r f (Reg a ∷ []) = f a
-of_r f operands = []
-
-abbrev pub of_rr : (ℕ → ℕ → List Item) → List Operand → List Item
-of_rr f (Reg a ∷ Reg b ∷ []) = f a b
-of_rr f operands = []
-
-abbrev pub of_rrr : (ℕ → ℕ → ℕ → List Item) → List Operand → List Item
-of_rrr f (Reg a ∷ Reg b ∷ Reg c ∷ []) = f a b c
-of_rrr f operands = []
-
-abbrev pub of_ri : (ℕ → Imm → List Item) → List Operand → List Item
-of_ri f (Reg a ∷ ImmIs imm ∷ []) = f a imm
-of_ri f operands = []
-
-abbrev pub of_rri : (ℕ → ℕ → Imm → List Item) → List Operand → List Item
-of_rri f (Reg a ∷ Reg b ∷ ImmIs imm ∷ []) = f a b imm
-of_rri f operands = []
-
-abbrev pub of_rm : (ℕ → Imm → ℕ → List Item) → List Operand → List Item
-of_rm f (Reg a ∷ MemoryAt imm b ∷ []) = f a imm b
-of_rm f operands = []
-
-abbrev pub of_e : (Expr → List Item) → List Operand → List Item
-of_e f (ExprIs e ∷ []) = f e
-of_e f operands = []
-
-abbrev pub of_re : (ℕ → Expr → List Item) → List Operand → List Item
-of_re f (Reg a ∷ ExprIs e ∷ []) = f a e
-of_re f operands = []
-
-abbrev pub of_rre : (ℕ → ℕ → Expr → List Item) → List Operand → List Item
-of_rre f (Reg a ∷ Reg b ∷ ExprIs e ∷ []) = f a b e
-of_rre f operands = []
-
-abbrev pub of_rc : (ℕ → Expr → Option ℤ → List Item) → List Operand → List Item
-of_rc f (Reg a ∷ ConstantIs e value ∷ []) = f a e value
-of_rc f operands = []
-
-abbrev pub of_ff : (ℕ → ℕ → List Item) → List Operand → List Item
-of_ff f (FencesAre a ∷ FencesAre b ∷ []) = f a b
-of_ff f operands = []
+no_operands items equs xs = ends items xs
 
 abbrev pub form_r : (ℕ → List Item) → Form
-form_r f = record { slots = Register ∷ []; items = of_r f }
+form_r f equs xs = then_take (take_register xs) (λ a xs. ends (f a) xs)
 
 abbrev pub form_rr : (ℕ → ℕ → List Item) → Form
-form_rr f = record { slots = Register ∷ Register ∷ []; items = of_rr f }
+form_rr f equs xs = then_take (take_register xs) (λ a xs. then_take (take_next take_register xs) (λ b xs. ends (f a b) xs))
 
 abbrev pub form_rrr : (ℕ → ℕ → ℕ → List Item) → Form
-form_rrr f = record { slots = Register ∷ Register ∷ Register ∷ []; items = of_rrr f }
+form_rrr f equs xs =
+    then_take (take_register xs) (λ a xs. then_take (take_next take_register xs) (λ b xs. then_take (take_next take_register xs) (λ c xs. ends (f a b c) xs)))
 
 abbrev pub form_ri : (ℕ → Imm → List Item) → Form
-form_ri f = record { slots = Register ∷ Immediate ∷ []; items = of_ri f }
+form_ri f equs xs = then_take (take_register xs) (λ a xs. then_take (take_next take_imm xs) (λ imm xs. ends (f a imm) xs))
 
 abbrev pub form_rri : (ℕ → ℕ → Imm → List Item) → Form
-form_rri f = record { slots = Register ∷ Register ∷ Immediate ∷ []; items = of_rri f }
+form_rri f equs xs =
+    then_take (take_register xs) (λ a xs. then_take (take_next take_register xs) (λ b xs. then_take (take_next take_imm xs) (λ imm xs. ends (f a b imm) xs)))
 
+-- a register and an address
 abbrev pub form_rm : (ℕ → Imm → ℕ → List Item) → Form
-form_rm f = record { slots = Register ∷ Memory ∷ []; items = of_rm f }
+form_rm f equs xs = then_take (take_register xs) (λ a xs. then_take (take_next take_memory xs) (λ at xs. ends (f a at.0 at.1) xs))
 
+-- two registers and an address of an AMO
 abbrev pub form_rrb : (ℕ → ℕ → ℕ → List Item) → Form
-form_rrb f = record { slots = Register ∷ Register ∷ Base ∷ []; items = of_rrr f }
+form_rrb f equs xs =
+    then_take (take_register xs) (λ a xs. then_take (take_next take_register xs) (λ b xs. then_take (take_next take_base xs) (λ c xs. ends (f a b c) xs)))
 
 abbrev pub form_e : (Expr → List Item) → Form
-form_e f = record { slots = Value ∷ []; items = of_e f }
+form_e f equs xs = then_take (take_expr xs) (λ e xs. ends (f e) xs)
 
 abbrev pub form_re : (ℕ → Expr → List Item) → Form
-form_re f = record { slots = Register ∷ Value ∷ []; items = of_re f }
+form_re f equs xs = then_take (take_register xs) (λ a xs. then_take (take_next take_expr xs) (λ e xs. ends (f a e) xs))
 
 abbrev pub form_rre : (ℕ → ℕ → Expr → List Item) → Form
-form_rre f = record { slots = Register ∷ Register ∷ Value ∷ []; items = of_rre f }
+form_rre f equs xs =
+    then_take (take_register xs) (λ a xs. then_take (take_next take_register xs) (λ b xs. then_take (take_next take_expr xs) (λ e xs. ends (f a b e) xs)))
 
+-- a register and a constant
 abbrev pub form_rc : (ℕ → Expr → Option ℤ → List Item) → Form
-form_rc f = record { slots = Register ∷ Constant ∷ []; items = of_rc f }
+form_rc f equs xs = then_take (take_register xs) (λ a xs. then_take (take_next (take_constant equs) xs) (λ c xs. ends (f a c.0 c.1) xs))
 
+-- the two sets of a fence
 abbrev pub form_ff : (ℕ → ℕ → List Item) → Form
-form_ff f = record { slots = Fences ∷ Fences ∷ []; items = of_ff f }
+form_ff f equs xs = then_take (take_fences xs) (λ a xs. then_take (take_next take_fences xs) (λ b xs. ends (f a b) xs))
+
+-- the form that fits, or that goes furthest
+unfoldable pub take_forms : List Form → Form
+take_forms [] equs xs = Stuck xs
+take_forms (form ∷ forms) equs xs = further (form equs xs) (take_forms forms equs xs)
 
 -- ---- the tables
 
@@ -207,7 +175,7 @@ orderings = (codes "", false, false) ∷ (codes ".aq", true, false) ∷ (codes "
 abbrev pub amo_rows : AmoOp → List ℕ → List (List ℕ × List Form)
 amo_rows op name = map (λ o. (name ++ o.0, form_rrb (λ rd rs2 rs1. ready (Amo op rd rs1 rs2 o.1 o.2)) ∷ [])) orderings
 
--- `li` by its value: one instruction where it is of twelve bits, else its high part and, unless that is 0, its low part
+-- `li` by its value: one instruction where it is of twelve bits, else its high part, and then its low part where that isn't 0
 abbrev pub load_constant : ℕ → ℤ → List Item
 load_constant rd n =
     let value = cast_signed w32 (word_of n) in
@@ -221,7 +189,7 @@ load_address rd expr =
     Numbered expr expr.column is_number (λ n. Instruction (Lui rd (high_part n)))
     ∷ Numbered expr expr.column is_number (λ n. Instruction (OpImm Addi rd rd (low_part n))) ∷ []
 
--- a constant without a value has a fault later, and room for two instructions
+-- a constant without a value has a fault, and room for two instructions
 abbrev pub load_immediate : ℕ → Expr → Option ℤ → List Item
 load_immediate rd expr (Some n) = load_constant rd n
 load_immediate rd expr None = load_address rd expr
@@ -243,7 +211,7 @@ mnemonics =
     ++ map (λ row. (row.0, form_rri (λ rd rs1 imm. with_imm is_shift (OpImm row.1 rd rs1) imm ∷ []) ∷ [])) shift_ops
     ++ map (λ row. (row.0, form_rrr (λ rd rs1 rs2. ready (Op row.1 rd rs1 rs2)) ∷ [])) reg_ops
     ++ flat_map (λ row. amo_rows row.1 row.0) amo_ops
-    ++ (codes "fence", no_operands (ready (Fence 0x0ff0000f)) ∷ form_ff (λ before after. ready (Fence (fence_word before after))) ∷ [])
+    ++ (codes "fence", no_operands (ready (Fence (fence_word 15 15))) ∷ form_ff (λ before after. ready (Fence (fence_word before after))) ∷ [])
     ∷ (codes "ecall", no_operands (ready Ecall) ∷ [])
     ∷ (codes "ebreak", no_operands (ready Ebreak) ∷ [])
     -- pseudo-instructions

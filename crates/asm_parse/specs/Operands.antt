@@ -1,7 +1,6 @@
--- The operands of a line: which tokens an operand takes, and what they say. A form of a mnemonic is a list of slots, and
--- takes an operand for each, with commas between them. The first token with which no form can go on is the one that
--- doesn't fit.
-use Rattle.std.specs.Prelude.{ℕ, zero, suc, ◌+◌, ◌-◌, ℤ, pos, neg_ℤ, ◌+ℤ◌, Bool, true, false, ◌==◌, ◌&&◌, if◌then◌else◌, List, [], ◌∷◌, map, length, take, drop, codes, Option, Some, None, is_none, ◌++◌}
+-- The operands of a line: which tokens an operand takes, and what they say. The first token with which no form of a mnemonic
+-- can go on is the one that doesn't fit.
+use Rattle.std.specs.Prelude.{ℕ, zero, suc, ◌+◌, ◌-◌, ℤ, pos, neg_ℤ, ◌+ℤ◌, Bool, true, false, ◌==◌, ◌&&◌, nat_lt, if◌then◌else◌, List, [], ◌∷◌, map, length, take, drop, codes, Option, Some, None, is_none, ◌++◌}
 use Rattle.std.specs.Option.{option_map}
 use Rattle.std.specs.Str.{bytes_eq}
 use Rattle.asm_parse.specs.declared.token.Token.{Token}
@@ -82,7 +81,8 @@ take_number negative (Some column) xs = then_take (take_kind Number xs) (λ x re
 abbrev pub take_literal : List Lexeme → Took Literal
 take_literal xs = if first_is (has_kind Minus) xs then then_take (take_kind Minus xs) (λ x rest. take_number true (Some x.column) rest) else take_number false None xs
 
--- a number, a name, or a name with a number added to it; and the column of its first token
+-- a number, a name, or a name with a number added to it or taken from it; and the column of its first token. The number is
+-- none where it is misspelt or too wide, and 0 where there is only a name
 pub record Expr : Type 0 where
   pub name : Option (List ℕ)
   pub number : Option ℤ
@@ -115,7 +115,7 @@ pub data Part : Type 0 where
 pub record Imm : Type 0 where
   pub part : Part
   pub expr : Expr
-  pub column : ℕ
+  pub column : ℕ  -- of the `%`, or else of the expression
 
 abbrev pub parts : List (List ℕ × Part)
 parts = (codes "hi", High) ∷ (codes "lo", Low) ∷ []
@@ -133,57 +133,44 @@ take_imm xs =
     if first_is (has_kind Percent) xs then then_take (take_kind Percent xs) take_part
     else then_take (take_expr xs) (λ expr rest. Taken (record { part = Whole; expr = expr; column = expr.column }) rest)
 
--- ---- slots
-
--- what may stand as an operand
-pub data Slot : Type 0 where
-  Register : Slot  -- a register
-  Immediate : Slot  -- an expression, or its high or low part
-  Memory : Slot  -- an address: an immediate, which may be left out, and a register in parentheses
-  Base : Slot  -- an address: a register in parentheses, with or without a `0` in front
-  Value : Slot  -- an expression
-  Constant : Slot  -- an expression whose name is that of an earlier `.equ`
-  Plain : Slot  -- a number
-  Symbol : Slot  -- a name
-  Fences : Slot  -- some of the letters i, o, r and w
-
--- what was found there
-pub data Operand : Type 0 where
-  Reg : ℕ → Operand
-  ImmIs : Imm → Operand
-  MemoryAt : Imm → ℕ → Operand
-  ExprIs : Expr → Operand
-  ConstantIs : Expr → Option ℤ → Operand
-  LiteralIs : Literal → Operand
-  SymbolIs : Lexeme → Operand
-  FencesAre : ℕ → Operand
+-- ---- operands
 
 abbrev pub register_if : Lexeme → Option ℕ
 register_if x = if has_kind Word x then register_named x.text else None
 
-abbrev pub fences_if : Lexeme → Option ℕ
-fences_if x = if has_kind Word x then fence_set x.text else None
+abbrev pub take_register : List Lexeme → Took ℕ
+take_register xs = take_one register_if xs
 
-abbrev pub zero_if : Lexeme → Option Lexeme
-zero_if x = if has_kind Number x && bytes_eq x.text (codes "0") then Some x else None
-
+-- a register in parentheses
 abbrev pub take_in_parentheses : List Lexeme → Took ℕ
 take_in_parentheses xs =
-    then_take (take_kind Open xs) (λ _ xs. then_take (take_one register_if xs) (λ r xs. then_take (take_kind Close xs) (λ _ xs. Taken r xs)))
+    then_take (take_kind Open xs) (λ _ xs. then_take (take_register xs) (λ r xs. then_take (take_kind Close xs) (λ _ xs. Taken r xs)))
 
 -- an immediate that is left out is 0
 abbrev pub no_imm : Imm
 no_imm = record { part = Whole; expr = record { name = None; number = Some (pos 0); column = 0 }; column = 0 }
 
-abbrev pub take_memory : List Lexeme → Took Operand
+-- an address: an immediate, which may be left out, and a register in parentheses
+abbrev pub take_memory : List Lexeme → Took (Imm × ℕ)
 take_memory xs =
-    if first_is (has_kind Open) xs then then_take (take_in_parentheses xs) (λ r xs. Taken (MemoryAt no_imm r) xs)
-    else then_take (take_imm xs) (λ imm xs. then_take (take_in_parentheses xs) (λ r xs. Taken (MemoryAt imm r) xs))
+    if first_is (has_kind Open) xs then then_take (take_in_parentheses xs) (λ r xs. Taken (no_imm, r) xs)
+    else then_take (take_imm xs) (λ imm xs. then_take (take_in_parentheses xs) (λ r xs. Taken (imm, r) xs))
 
-abbrev pub take_base : List Lexeme → Took Operand
-take_base xs =
-    if first_is (has_kind Open) xs then then_take (take_in_parentheses xs) (λ r xs. Taken (Reg r) xs)
-    else then_take (take_one zero_if xs) (λ _ xs. then_take (take_in_parentheses xs) (λ r xs. Taken (Reg r) xs))
+abbrev pub zero_if : Lexeme → Option Lexeme
+zero_if x = if has_kind Number x && bytes_eq x.text (codes "0") then Some x else None
+
+-- an address: a register in parentheses, with or without a `0` in front
+abbrev pub take_base : List Lexeme → Took ℕ
+take_base xs = if first_is (has_kind Open) xs then take_in_parentheses xs else then_take (take_one zero_if xs) (λ _ xs. take_in_parentheses xs)
+
+abbrev pub fences_if : Lexeme → Option ℕ
+fences_if x = if has_kind Word x then fence_set x.text else None
+
+-- some of the letters i, o, r and w
+abbrev pub take_fences : List Lexeme → Took ℕ
+take_fences xs = take_one fences_if xs
+
+-- ---- values of expressions
 
 -- the value of a name with a number added, both known
 abbrev pub sum_if : Option ℤ → Option ℤ → Option ℤ
@@ -207,47 +194,35 @@ if_in_range (Some n) = if_number n
 abbrev pub is_unknown : List (List ℕ × ℤ) → Lexeme → Bool
 is_unknown equs x = has_kind Word x && is_none (value_in equs x.text)
 
-abbrev pub take_constant : List (List ℕ × ℤ) → List Lexeme → Took Operand
+-- an expression whose name is that of an earlier `.equ`, with its value where that is a number
+abbrev pub take_constant : List (List ℕ × ℤ) → List Lexeme → Took (Expr × Option ℤ)
 take_constant equs xs =
     if first_is (is_unknown equs) xs then Stuck xs
-    else then_take (take_expr xs) (λ expr rest. Taken (ConstantIs expr (if_in_range (expr_value equs expr))) rest)
+    else then_take (take_expr xs) (λ expr xs. Taken (expr, if_in_range (expr_value equs expr)) xs)
 
--- what a slot takes; constants are those of the names given
-unfoldable pub take_slot : List (List ℕ × ℤ) → Slot → List Lexeme → Took Operand
-take_slot equs Register xs = then_take (take_one register_if xs) (λ r rest. Taken (Reg r) rest)
-take_slot equs Immediate xs = then_take (take_imm xs) (λ imm rest. Taken (ImmIs imm) rest)
-take_slot equs Memory xs = take_memory xs
-take_slot equs Base xs = take_base xs
-take_slot equs Value xs = then_take (take_expr xs) (λ expr rest. Taken (ExprIs expr) rest)
-take_slot equs Constant xs = take_constant equs xs
-take_slot equs Plain xs = then_take (take_literal xs) (λ n rest. Taken (LiteralIs n) rest)
-take_slot equs Symbol xs = then_take (take_kind Word xs) (λ x rest. Taken (SymbolIs x) rest)
-take_slot equs Fences xs = then_take (take_one fences_if xs) (λ set rest. Taken (FencesAre set) rest)
-
--- ---- forms
+-- ---- lists of operands
 
 -- the line ends here
-abbrev pub take_end : List Operand → List Lexeme → Took (List Operand)
-take_end operands [] = Taken operands []
-take_end operands (x ∷ xs) = Stuck (x ∷ xs)
+abbrev pub ends : {A : Type 0} → A → List Lexeme → Took A
+ends a [] = Taken a []
+ends a (x ∷ xs) = Stuck (x ∷ xs)
 
--- the other operands of a form, each behind a comma
-unfoldable pub take_others : List (List ℕ × ℤ) → List Slot → List Operand → List Lexeme → Took (List Operand)
-take_others equs [] found xs = take_end found xs
-take_others equs (slot ∷ slots) found xs =
-    then_take (take_kind Comma xs) (λ _ rest. then_take (take_slot equs slot rest) (λ operand rest. take_others equs slots (found ++ operand ∷ []) rest))
+-- an operand behind a comma
+abbrev pub take_next : {A : Type 0} → (List Lexeme → Took A) → List Lexeme → Took A
+take_next takes xs = then_take (take_kind Comma xs) (λ _ xs. takes xs)
 
--- all operands of a form
-unfoldable pub take_form : List (List ℕ × ℤ) → List Slot → List Lexeme → Took (List Operand)
-take_form equs [] xs = take_end [] xs
-take_form equs (slot ∷ slots) xs = then_take (take_slot equs slot xs) (λ operand rest. take_others equs slots (operand ∷ []) rest)
+-- further expressions, each behind a comma, up to the line's end; there are no more of them than tokens
+unfoldable pub take_more : ℕ → List Expr → List Lexeme → Took (List Expr)
+take_more zero found xs = ends found xs
+take_more (suc most) found [] = Taken found []
+take_more (suc most) found (x ∷ xs) = then_take (take_next take_expr (x ∷ xs)) (λ expr xs. take_more most (found ++ expr ∷ []) xs)
 
--- a list of one operand or more of a kind, where `most` are no fewer than there are tokens
-unfoldable pub take_more : List (List ℕ × ℤ) → Slot → ℕ → List Operand → List Lexeme → Took (List Operand)
-take_more equs slot zero found xs = take_end found xs
-take_more equs slot (suc most) found [] = Taken found []
-take_more equs slot (suc most) found (x ∷ xs) =
-    then_take (take_kind Comma (x ∷ xs)) (λ _ rest. then_take (take_slot equs slot rest) (λ operand rest. take_more equs slot most (found ++ operand ∷ []) rest))
+-- one expression or more
+unfoldable pub take_exprs : List Lexeme → Took (List Expr)
+take_exprs xs = then_take (take_expr xs) (λ expr rest. take_more (length xs) (expr ∷ []) rest)
 
-unfoldable pub take_list : List (List ℕ × ℤ) → Slot → List Lexeme → Took (List Operand)
-take_list equs slot xs = then_take (take_slot equs slot xs) (λ operand rest. take_more equs slot (length xs) (operand ∷ []) rest)
+-- of two ways, the one that fits, or the one that goes further
+abbrev pub further : {A : Type 0} → Took A → Took A → Took A
+further (Taken a xs) other = Taken a xs
+further (Stuck xs) (Taken a ys) = Taken a ys
+further (Stuck xs) (Stuck ys) = if nat_lt (length xs) (length ys) then Stuck xs else Stuck ys

@@ -1,6 +1,6 @@
 //! Worked examples: each function has an empty body, and its contract says what the definitions give for small sources.
 
-ghost use Rattle.asm_parse.specs.Examples.{ReadsInstructions, ReadsData, FindsFaults};
+ghost use Rattle.asm_parse.specs.Examples.{ReadsInstructions, ReadsData, FindsFaults, Assembles};
 
 /// Instructions and pseudo-instructions stand for those of the table.
 pub fn reads_instructions()
@@ -15,4 +15,9 @@ pub fn reads_data()
 /// The first fault of a source.
 pub fn finds_faults()
     ensures { FindsFaults }
+{}
+
+/// A source and its image.
+pub fn assembles()
+    ensures { Assembles }
 {}
