@@ -1,4 +1,17 @@
 pub mod Places
+pub mod Digits
+pub mod ExprLists
 pub mod LineCuts
+pub mod Shorter
 pub mod Spans
 pub mod Worked
+pub mod Rows
+pub mod Taken
+pub mod Multiples
+pub mod Misreads
+pub mod Labels
+pub mod Constants
+pub mod MnemonicTables
+pub mod AmoNames
+pub mod Tables
+pub mod Texts

@@ -143,6 +143,10 @@ below_end : (code : List ℕ) (place k : ℕ) → place < k → k < end_at code 
 unfolding end_at run_at
 below_end code place k low high = omega arith
 
+-- behind its first byte a token has name bytes
+pub name_behind : (code : List ℕ) (place k : ℕ) → place < k → k < end_at code place → is_name_byte (slice_index code k) ≡ true
+name_behind code place k low high = in_run code place k (omega arith) (below_end code place k low high)
+
 end_edge : (code : List ℕ) (place : ℕ) → place < length code → is_within_run code (end_at code place) ≡ false
 unfolding end_at run_at
 end_edge code place low = elim (cases_lt 0 (run_at code place)) [

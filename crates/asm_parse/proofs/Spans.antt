@@ -24,7 +24,7 @@ picked place end token false (Some kind) e =
     let same : record { kind = kind; start = place; end = end } ≡ token = cc in
     record { start = sym (ap (λ t. t.start) same); end = sym (ap (λ t. t.end) same) }
 
-stands : (code : List ℕ) (place : ℕ) (token : Token) → token_at code place ≡ Some token → Stands place (end_at code place) token
+pub stands : (code : List ℕ) (place : ℕ) (token : Token) → token_at code place ≡ Some token → Stands place (end_at code place) token
 unfolding token_at
 stands code place token e = picked place (end_at code place) token (is_within_run code place) (kind_of (slice_index code place)) e
 

@@ -13,20 +13,17 @@ use Rattle.asm_parse.specs.declared.fault.AsmCause.{AsmCause}
 use Rattle.asm_parse.specs.declared.fault.AsmCause.TheVariants as cause
 use Rattle.asm_parse.specs.declared.fault.AsmFault.{AsmFault}
 use Rattle.asm_parse.specs.declared.fault.AsmFault.TheVariants.{At}
+use Rattle.asm_parse.specs.declared.expr.Literal.{Literal}
+use Rattle.asm_parse.specs.declared.place.Place.{Place}
 use Rattle.asm_parse.specs.Tokens.{code_of, is_strange}
 use Rattle.asm_parse.specs.Lines.{lines_of}
 use Rattle.asm_parse.specs.Numbers.{is_between, is_number, value_in}
-use Rattle.asm_parse.specs.Operands.{Lexeme, lexemes_of, has_kind, Took, Taken, Stuck, then_take, take_kind, take_next, take_literal, take_exprs, ends, Expr, Literal, expr_value}
+use Rattle.asm_parse.specs.Operands.{Lexeme, lexemes_of, has_kind, Took, Taken, Stuck, then_take, take_kind, take_next, take_literal, take_exprs, ends, Expr, expr_value}
 use Rattle.asm_parse.specs.Mnemonics.{Code, Instruction, Raw, Item, Known, Numbered, Distant, Form, take_forms, forms_named}
 
 -- ---- where a line stands
 
--- the space that lines go to, and the next addresses of text and of data
-pub record Place : Type 0 where
-  pub in_data : Bool
-  pub text : ℕ
-  pub memory : ℕ
-
+-- the next address of the space that lines go to
 abbrev pub here : Place → ℕ
 here place = if place.in_data then place.memory else place.text
 
@@ -164,6 +161,10 @@ directives =
     ∷ (codes ".global", everywhere (λ xs. read_plain (then_take (take_kind Word xs) (λ _ xs. ends Nothing xs))))
     ∷ []
 
+-- the directive of a name, if there is one
+unfoldable pub directive_named : List ℕ → Option Directive
+directive_named name = value_in directives name
+
 -- ---- a line
 
 abbrev pub is_label : Lexeme → Lexeme → Bool
@@ -187,17 +188,18 @@ pub data Asked : Type 0 where
   OtherSpace : ℕ → Asked  -- the one at this column may not stand in this space
   Asks : Reading → Asked
 
-abbrev pub asked_directive : Before → Lexeme → List Lexeme → Option Directive → Asked
-asked_directive b x xs None = NoWord x.column
-asked_directive b x xs (Some d) = if d.data_only && not b.place.in_data then OtherSpace x.column else Asks (d.reads b.place xs)
+abbrev pub asked_directive : Place → Lexeme → List Lexeme → Option Directive → Asked
+asked_directive place x xs None = NoWord x.column
+asked_directive place x xs (Some d) = if d.data_only && not place.in_data then OtherSpace x.column else Asks (d.reads place xs)
 
-abbrev pub asked_forms : Before → Lexeme → List Lexeme → Option (List Form) → Asked
-asked_forms b x xs None = asked_directive b x xs (value_in directives x.text)
-asked_forms b x xs (Some forms) = if b.place.in_data then OtherSpace x.column else Asks (read_items 4 (take_forms forms b.equs xs))
+abbrev pub asked_forms : Place → List (List ℕ × ℤ) → Lexeme → List Lexeme → Option (List Form) → Asked
+asked_forms place equs x xs None = asked_directive place x xs (directive_named x.text)
+asked_forms place equs x xs (Some forms) = if place.in_data then OtherSpace x.column else Asks (read_items 4 (take_forms forms equs xs))
 
-abbrev pub asked : Before → List Lexeme → Asked
-asked b [] = NothingAsked
-asked b (x ∷ xs) = if has_kind Word x then asked_forms b x xs (forms_named x.text) else NoWord x.column
+-- what a line asks for in its place, behind its labels, with the names of `.equ` that stand before
+unfoldable pub asked : Place → List (List ℕ × ℤ) → List Lexeme → Asked
+asked place equs [] = NothingAsked
+asked place equs (x ∷ xs) = if has_kind Word x then asked_forms place equs x xs (forms_named x.text) else NoWord x.column
 
 -- ---- the first round
 
@@ -262,15 +264,19 @@ pub record Step : Type 0 where
   pub does : Statement
   pub fault : Option AsmCause  -- of the first round
 
--- the causes of the first round, in their order
-unfoldable pub line_fault : Before → List ℕ → Asked → List Lexeme → Option AsmCause
-line_fault b line asks labels =
-    let does = statement_of asks in
+-- the causes that show when a line is read by itself, in their order
+unfoldable pub reading_fault : List ℕ → Asked → Option AsmCause
+reading_fault line asks =
     first_of (option_map (λ place. cause.Character (place + 1)) (position is_strange (code_of line))
     ∷ word_fault asks
     ∷ operand_fault (length line + 1) asks
     ∷ number_fault asks
-    ∷ first_twice (map (λ name. name.0) b.names) (labels ++ defined_by does)
+    ∷ [])
+
+-- the causes that show in its place among the lines before, in their order
+unfoldable pub placing_fault : Before → List Lexeme → Statement → Option AsmCause
+placing_fault b labels does =
+    first_of (first_twice (map (λ name. name.0) b.names) (labels ++ defined_by does)
     ∷ text_fault b.place does
     ∷ range_fault b.place does
     ∷ overlap_fault b does
@@ -279,8 +285,10 @@ line_fault b line asks labels =
 unfoldable pub step_of : ℕ → Before → List ℕ → Step
 step_of number b line =
     let tokens = lexemes_of (code_of line) in
-    let asks = asked b (behind_labels tokens) in
-    record { number = number; place = b.place; labels = labels_of tokens; does = statement_of asks; fault = line_fault b line asks (labels_of tokens) }
+    let labels = labels_of tokens in
+    let asks = asked b.place b.equs (behind_labels tokens) in
+    let does = statement_of asks in
+    record { number = number; place = b.place; labels = labels; does = does; fault = first_of (reading_fault line asks ∷ placing_fault b labels does ∷ []) }
 
 -- ---- what a step leaves for the next ones
 

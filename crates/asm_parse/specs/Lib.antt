@@ -6,3 +6,11 @@ pub mod Operands
 pub mod Mnemonics
 pub mod Assembly
 pub mod Examples
+pub mod Widths
+pub mod Meanings
+pub mod NameTable
+pub mod Items
+pub mod ReadLines
+pub mod Forms
+pub mod Checks
+pub mod Readings

@@ -19,8 +19,10 @@ use Rattle.pmsi_model.specs.declared.instr.RegOp.TheVariants.{Add, Sub, Sll, Slt
 use Rattle.pmsi_model.specs.declared.instr.AmoOp.{AmoOp}
 use Rattle.pmsi_model.specs.declared.instr.AmoOp.TheVariants.{Amoadd, Amoswap, Amoxor, Amoor, Amoand, Amomin, Amomax, Amominu, Amomaxu}
 use Rattle.pmsi_model.specs.Words.{word_of, signed, wrapped}
+use Rattle.asm_parse.specs.declared.expr.Part.{Part}
+use Rattle.asm_parse.specs.declared.expr.Part.TheVariants.{Whole, High, Low}
 use Rattle.asm_parse.specs.Numbers.{is_between, is_number, value_in}
-use Rattle.asm_parse.specs.Operands.{Lexeme, Took, Stuck, then_take, Expr, Imm, Part, Whole, High, Low, take_expr, take_imm, take_register, take_memory, take_base, take_fences, take_constant, ends, take_next, further}
+use Rattle.asm_parse.specs.Operands.{Lexeme, Took, Taken, Stuck, then_take, Expr, Imm, take_expr, take_imm, take_register, take_memory, take_base, take_fences, take_constant, ends, take_next, further}
 
 -- ---- what a line puts into text or data
 
@@ -82,64 +84,104 @@ branch_to op rs1 rs2 target = Distant target (reaches 4096) (λ n. Instruction (
 abbrev pub ready : Instr → List Item
 ready instr = Known (Instruction instr) ∷ []
 
+-- ---- operands
+
+-- What a form takes, up to the line's end. Forms are named by their operands: registers r, an immediate i, an address m,
+-- that of an AMO b, an expression e, a constant c, sets of a fence f.
+
+abbrev pub take_pair : List Lexeme → Took (ℕ × ℕ)
+take_pair xs = then_take (take_register xs) (λ a xs. then_take (take_next take_register xs) (λ b xs. Taken (a, b) xs))
+
+unfoldable pub take_r : List Lexeme → Took ℕ
+take_r xs = then_take (take_register xs) ends
+
+unfoldable pub take_rr : List Lexeme → Took (ℕ × ℕ)
+take_rr xs = then_take (take_pair xs) ends
+
+unfoldable pub take_rrr : List Lexeme → Took (ℕ × ℕ × ℕ)
+take_rrr xs = then_take (take_pair xs) (λ t xs. then_take (take_next take_register xs) (λ c xs. ends (t.0, t.1, c) xs))
+
+unfoldable pub take_ri : List Lexeme → Took (ℕ × Imm)
+take_ri xs = then_take (take_register xs) (λ a xs. then_take (take_next take_imm xs) (λ imm xs. ends (a, imm) xs))
+
+unfoldable pub take_rri : List Lexeme → Took (ℕ × ℕ × Imm)
+take_rri xs = then_take (take_pair xs) (λ t xs. then_take (take_next take_imm xs) (λ imm xs. ends (t.0, t.1, imm) xs))
+
+unfoldable pub take_rm : List Lexeme → Took (ℕ × Imm × ℕ)
+take_rm xs = then_take (take_register xs) (λ a xs. then_take (take_next take_memory xs) (λ at xs. ends (a, at.0, at.1) xs))
+
+unfoldable pub take_rrb : List Lexeme → Took (ℕ × ℕ × ℕ)
+take_rrb xs = then_take (take_pair xs) (λ t xs. then_take (take_next take_base xs) (λ c xs. ends (t.0, t.1, c) xs))
+
+unfoldable pub take_e : List Lexeme → Took Expr
+take_e xs = then_take (take_expr xs) ends
+
+unfoldable pub take_re : List Lexeme → Took (ℕ × Expr)
+take_re xs = then_take (take_register xs) (λ a xs. then_take (take_next take_expr xs) (λ e xs. ends (a, e) xs))
+
+unfoldable pub take_rre : List Lexeme → Took (ℕ × ℕ × Expr)
+take_rre xs = then_take (take_pair xs) (λ t xs. then_take (take_next take_expr xs) (λ e xs. ends (t.0, t.1, e) xs))
+
+unfoldable pub take_rc : List (List ℕ × ℤ) → List Lexeme → Took (ℕ × Expr × Option ℤ)
+take_rc equs xs = then_take (take_register xs) (λ a xs. then_take (take_next (take_constant equs) xs) (λ c xs. ends (a, c.0, c.1) xs))
+
+unfoldable pub take_ff : List Lexeme → Took (ℕ × ℕ)
+take_ff xs = then_take (take_fences xs) (λ a xs. then_take (take_next take_fences xs) (λ b xs. ends (a, b) xs))
+
 -- ---- forms
 
--- what a form takes, with the names of `.equ` that stand before, and what it stands for. The forms are named by their
--- operands: registers r, an immediate i, an address m, that of an AMO b, an expression e, a constant c, sets of a fence f
+-- what a form takes, with the names of `.equ` that stand before, and what it stands for
 abbrev pub Form : Type 0
 Form = List (List ℕ × ℤ) → List Lexeme → Took (List Item)
+
+abbrev pub gives : {A : Type 0} → (A → List Item) → Took A → Took (List Item)
+gives f (Taken a xs) = Taken (f a) xs
+gives f (Stuck xs) = Stuck xs
 
 abbrev pub no_operands : List Item → Form
 no_operands items equs xs = ends items xs
 
 abbrev pub form_r : (ℕ → List Item) → Form
-form_r f equs xs = then_take (take_register xs) (λ a xs. ends (f a) xs)
+form_r f equs xs = gives f (take_r xs)
 
 abbrev pub form_rr : (ℕ → ℕ → List Item) → Form
-form_rr f equs xs = then_take (take_register xs) (λ a xs. then_take (take_next take_register xs) (λ b xs. ends (f a b) xs))
+form_rr f equs xs = gives (λ t. f t.0 t.1) (take_rr xs)
 
 abbrev pub form_rrr : (ℕ → ℕ → ℕ → List Item) → Form
-form_rrr f equs xs =
-    then_take (take_register xs) (λ a xs. then_take (take_next take_register xs) (λ b xs. then_take (take_next take_register xs) (λ c xs. ends (f a b c) xs)))
+form_rrr f equs xs = gives (λ t. f t.0 t.1 t.2) (take_rrr xs)
 
 abbrev pub form_ri : (ℕ → Imm → List Item) → Form
-form_ri f equs xs = then_take (take_register xs) (λ a xs. then_take (take_next take_imm xs) (λ imm xs. ends (f a imm) xs))
+form_ri f equs xs = gives (λ t. f t.0 t.1) (take_ri xs)
 
 abbrev pub form_rri : (ℕ → ℕ → Imm → List Item) → Form
-form_rri f equs xs =
-    then_take (take_register xs) (λ a xs. then_take (take_next take_register xs) (λ b xs. then_take (take_next take_imm xs) (λ imm xs. ends (f a b imm) xs)))
+form_rri f equs xs = gives (λ t. f t.0 t.1 t.2) (take_rri xs)
 
--- a register and an address
 abbrev pub form_rm : (ℕ → Imm → ℕ → List Item) → Form
-form_rm f equs xs = then_take (take_register xs) (λ a xs. then_take (take_next take_memory xs) (λ at xs. ends (f a at.0 at.1) xs))
+form_rm f equs xs = gives (λ t. f t.0 t.1 t.2) (take_rm xs)
 
--- two registers and an address of an AMO
 abbrev pub form_rrb : (ℕ → ℕ → ℕ → List Item) → Form
-form_rrb f equs xs =
-    then_take (take_register xs) (λ a xs. then_take (take_next take_register xs) (λ b xs. then_take (take_next take_base xs) (λ c xs. ends (f a b c) xs)))
+form_rrb f equs xs = gives (λ t. f t.0 t.1 t.2) (take_rrb xs)
 
 abbrev pub form_e : (Expr → List Item) → Form
-form_e f equs xs = then_take (take_expr xs) (λ e xs. ends (f e) xs)
+form_e f equs xs = gives f (take_e xs)
 
 abbrev pub form_re : (ℕ → Expr → List Item) → Form
-form_re f equs xs = then_take (take_register xs) (λ a xs. then_take (take_next take_expr xs) (λ e xs. ends (f a e) xs))
+form_re f equs xs = gives (λ t. f t.0 t.1) (take_re xs)
 
 abbrev pub form_rre : (ℕ → ℕ → Expr → List Item) → Form
-form_rre f equs xs =
-    then_take (take_register xs) (λ a xs. then_take (take_next take_register xs) (λ b xs. then_take (take_next take_expr xs) (λ e xs. ends (f a b e) xs)))
+form_rre f equs xs = gives (λ t. f t.0 t.1 t.2) (take_rre xs)
 
--- a register and a constant
 abbrev pub form_rc : (ℕ → Expr → Option ℤ → List Item) → Form
-form_rc f equs xs = then_take (take_register xs) (λ a xs. then_take (take_next (take_constant equs) xs) (λ c xs. ends (f a c.0 c.1) xs))
+form_rc f equs xs = gives (λ t. f t.0 t.1 t.2) (take_rc equs xs)
 
--- the two sets of a fence
 abbrev pub form_ff : (ℕ → ℕ → List Item) → Form
-form_ff f equs xs = then_take (take_fences xs) (λ a xs. then_take (take_next take_fences xs) (λ b xs. ends (f a b) xs))
+form_ff f equs xs = gives (λ t. f t.0 t.1) (take_ff xs)
 
 -- the form that fits, or that goes furthest
 unfoldable pub take_forms : List Form → Form
 take_forms [] equs xs = Stuck xs
-take_forms (form ∷ forms) equs xs = further (form equs xs) (take_forms forms equs xs)
+take_forms (form ∷ []) equs xs = form equs xs
+take_forms (form ∷ other ∷ forms) equs xs = further (form equs xs) (take_forms (other ∷ forms) equs xs)
 
 -- ---- the tables
 
@@ -169,11 +211,8 @@ amo_ops =
     ∷ (codes "amomin.w", Amomin) ∷ (codes "amomax.w", Amomax) ∷ (codes "amominu.w", Amominu) ∷ (codes "amomaxu.w", Amomaxu) ∷ []
 
 -- an AMO's suffixes, with their aq and rl
-abbrev pub orderings : List (List ℕ × Bool × Bool)
-orderings = (codes "", false, false) ∷ (codes ".aq", true, false) ∷ (codes ".rl", false, true) ∷ (codes ".aqrl", true, true) ∷ []
-
-abbrev pub amo_rows : AmoOp → List ℕ → List (List ℕ × List Form)
-amo_rows op name = map (λ o. (name ++ o.0, form_rrb (λ rd rs2 rs1. ready (Amo op rd rs1 rs2 o.1 o.2)) ∷ [])) orderings
+abbrev pub orderings : List (List ℕ × (Bool × Bool))
+orderings = (codes "", (false, false)) ∷ (codes ".aq", (true, false)) ∷ (codes ".rl", (false, true)) ∷ (codes ".aqrl", (true, true)) ∷ []
 
 -- `li` by its value: one instruction where it is of twelve bits, else its high part, and then its low part where that isn't 0
 abbrev pub load_constant : ℕ → ℤ → List Item
@@ -197,25 +236,51 @@ load_immediate rd expr None = load_address rd expr
 abbrev pub fence_word : ℕ → ℕ → ℕ
 fence_word before after = 2 ^ 24 * before + 2 ^ 20 * after + 0xf
 
-unfoldable pub mnemonics : List (List ℕ × List Form)
-mnemonics =
-    -- instructions
+-- names with what each stands for, as names with the forms of that
+abbrev pub rows : {A : Type 0} → (A → List Form) → List (List ℕ × A) → List (List ℕ × List Form)
+rows forms table = map (λ row. (row.0, forms row.1)) table
+
+abbrev pub upper_and_jump_rows : List (List ℕ × List Form)
+upper_and_jump_rows =
     (codes "lui", form_ri (λ rd imm. with_imm is_imm_20 (λ n. Lui rd (word_of n)) imm ∷ []) ∷ [])
     ∷ (codes "auipc", form_ri (λ rd imm. with_imm is_imm_20 (λ n. Auipc rd (word_of n)) imm ∷ []) ∷ [])
     ∷ (codes "jal", form_re (λ rd target. jump_to rd target ∷ []) ∷ form_e (λ target. jump_to 1 target ∷ []) ∷ [])
     ∷ (codes "jalr", form_rm (λ rd imm rs1. with_imm is_imm_12 (Jalr rd rs1) imm ∷ []) ∷ form_rri (λ rd rs1 imm. with_imm is_imm_12 (Jalr rd rs1) imm ∷ []) ∷ form_r (λ rs. ready (Jalr 1 rs (pos 0))) ∷ [])
-    ∷ map (λ row. (row.0, form_rre (λ rs1 rs2 target. branch_to row.1 rs1 rs2 target ∷ []) ∷ [])) branches
-    ++ map (λ row. (row.0, form_rm (λ rd imm rs1. with_imm is_imm_12 (Load row.1 rd rs1) imm ∷ []) ∷ [])) loads
-    ++ map (λ row. (row.0, form_rm (λ rs2 imm rs1. with_imm is_imm_12 (Store row.1 rs1 rs2) imm ∷ []) ∷ [])) stores
-    ++ map (λ row. (row.0, form_rri (λ rd rs1 imm. with_imm is_imm_12 (OpImm row.1 rd rs1) imm ∷ []) ∷ [])) imm_ops
-    ++ map (λ row. (row.0, form_rri (λ rd rs1 imm. with_imm is_shift (OpImm row.1 rd rs1) imm ∷ []) ∷ [])) shift_ops
-    ++ map (λ row. (row.0, form_rrr (λ rd rs1 rs2. ready (Op row.1 rd rs1 rs2)) ∷ [])) reg_ops
-    ++ flat_map (λ row. amo_rows row.1 row.0) amo_ops
-    ++ (codes "fence", no_operands (ready (Fence (fence_word 15 15))) ∷ form_ff (λ before after. ready (Fence (fence_word before after))) ∷ [])
+    ∷ []
+
+abbrev pub branch_rows : List (List ℕ × List Form)
+branch_rows = rows (λ op. form_rre (λ rs1 rs2 target. branch_to op rs1 rs2 target ∷ []) ∷ []) branches
+
+abbrev pub load_and_store_rows : List (List ℕ × List Form)
+load_and_store_rows =
+    rows (λ op. form_rm (λ rd imm rs1. with_imm is_imm_12 (Load op rd rs1) imm ∷ []) ∷ []) loads
+    ++ rows (λ op. form_rm (λ rs2 imm rs1. with_imm is_imm_12 (Store op rs1 rs2) imm ∷ []) ∷ []) stores
+
+abbrev pub imm_rows : List (List ℕ × List Form)
+imm_rows =
+    rows (λ op. form_rri (λ rd rs1 imm. with_imm is_imm_12 (OpImm op rd rs1) imm ∷ []) ∷ []) imm_ops
+    ++ rows (λ op. form_rri (λ rd rs1 imm. with_imm is_shift (OpImm op rd rs1) imm ∷ []) ∷ []) shift_ops
+
+abbrev pub reg_rows : List (List ℕ × List Form)
+reg_rows = rows (λ op. form_rrr (λ rd rs1 rs2. ready (Op op rd rs1 rs2)) ∷ []) reg_ops
+
+abbrev pub amo_forms : AmoOp → Bool × Bool → List Form
+amo_forms op ordering = form_rrb (λ rd rs2 rs1. ready (Amo op rd rs1 rs2 ordering.0 ordering.1)) ∷ []
+
+-- each operation with each suffix
+abbrev pub amo_rows : List (List ℕ × List Form)
+amo_rows = flat_map (λ row. map (λ suffix. (row.0 ++ suffix.0, amo_forms row.1 suffix.1)) orderings) amo_ops
+
+abbrev pub fence_and_system_rows : List (List ℕ × List Form)
+fence_and_system_rows =
+    (codes "fence", no_operands (ready (Fence (fence_word 15 15))) ∷ form_ff (λ before after. ready (Fence (fence_word before after))) ∷ [])
     ∷ (codes "ecall", no_operands (ready Ecall) ∷ [])
     ∷ (codes "ebreak", no_operands (ready Ebreak) ∷ [])
-    -- pseudo-instructions
-    ∷ (codes "nop", no_operands (ready (OpImm Addi 0 0 (pos 0))) ∷ [])
+    ∷ []
+
+abbrev pub pseudo_operation_rows : List (List ℕ × List Form)
+pseudo_operation_rows =
+    (codes "nop", no_operands (ready (OpImm Addi 0 0 (pos 0))) ∷ [])
     ∷ (codes "mv", form_rr (λ rd rs. ready (OpImm Addi rd rs (pos 0))) ∷ [])
     ∷ (codes "not", form_rr (λ rd rs. ready (OpImm Xori rd rs (neg_ℤ (pos 1)))) ∷ [])
     ∷ (codes "neg", form_rr (λ rd rs. ready (Op Sub rd 0 rs)) ∷ [])
@@ -223,7 +288,11 @@ mnemonics =
     ∷ (codes "snez", form_rr (λ rd rs. ready (Op Sltu rd 0 rs)) ∷ [])
     ∷ (codes "sltz", form_rr (λ rd rs. ready (Op Slt rd rs 0)) ∷ [])
     ∷ (codes "sgtz", form_rr (λ rd rs. ready (Op Slt rd 0 rs)) ∷ [])
-    ∷ (codes "beqz", form_re (λ rs target. branch_to Beq rs 0 target ∷ []) ∷ [])
+    ∷ []
+
+abbrev pub pseudo_branch_rows : List (List ℕ × List Form)
+pseudo_branch_rows =
+    (codes "beqz", form_re (λ rs target. branch_to Beq rs 0 target ∷ []) ∷ [])
     ∷ (codes "bnez", form_re (λ rs target. branch_to Bne rs 0 target ∷ []) ∷ [])
     ∷ (codes "blez", form_re (λ rs target. branch_to Bge 0 rs target ∷ []) ∷ [])
     ∷ (codes "bgez", form_re (λ rs target. branch_to Bge rs 0 target ∷ []) ∷ [])
@@ -233,13 +302,23 @@ mnemonics =
     ∷ (codes "ble", form_rre (λ a b target. branch_to Bge b a target ∷ []) ∷ [])
     ∷ (codes "bgtu", form_rre (λ a b target. branch_to Bltu b a target ∷ []) ∷ [])
     ∷ (codes "bleu", form_rre (λ a b target. branch_to Bgeu b a target ∷ []) ∷ [])
-    ∷ (codes "j", form_e (λ target. jump_to 0 target ∷ []) ∷ [])
+    ∷ []
+
+abbrev pub pseudo_jump_and_load_rows : List (List ℕ × List Form)
+pseudo_jump_and_load_rows =
+    (codes "j", form_e (λ target. jump_to 0 target ∷ []) ∷ [])
     ∷ (codes "call", form_e (λ target. jump_to 1 target ∷ []) ∷ [])
     ∷ (codes "jr", form_r (λ rs. ready (Jalr 0 rs (pos 0))) ∷ [])
     ∷ (codes "ret", no_operands (ready (Jalr 0 1 (pos 0))) ∷ [])
     ∷ (codes "li", form_rc load_immediate ∷ [])
     ∷ (codes "la", form_re load_address ∷ [])
     ∷ []
+
+-- instructions, and then pseudo-instructions
+unfoldable pub mnemonics : List (List ℕ × List Form)
+mnemonics =
+    upper_and_jump_rows ++ branch_rows ++ load_and_store_rows ++ imm_rows ++ reg_rows ++ amo_rows
+    ++ fence_and_system_rows ++ pseudo_operation_rows ++ pseudo_branch_rows ++ pseudo_jump_and_load_rows
 
 -- the forms of a mnemonic, if there is one of this name
 unfoldable pub forms_named : List ℕ → Option (List Form)

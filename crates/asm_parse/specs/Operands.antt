@@ -6,6 +6,9 @@ use Rattle.std.specs.Str.{bytes_eq}
 use Rattle.asm_parse.specs.declared.token.Token.{Token}
 use Rattle.asm_parse.specs.declared.token.TokenKind.{TokenKind}
 use Rattle.asm_parse.specs.declared.token.TokenKind.TheVariants.{Word, Number, Comma, Colon, Open, Close, Plus, Minus, Percent}
+use Rattle.asm_parse.specs.declared.expr.Literal.{Literal}
+use Rattle.asm_parse.specs.declared.expr.Part.{Part}
+use Rattle.asm_parse.specs.declared.expr.Part.TheVariants.{Whole, High, Low}
 use Rattle.asm_parse.specs.Tokens.{tokens_of}
 use Rattle.asm_parse.specs.Numbers.{number_spelt, signed_number, if_number, register_named, fence_set, value_in}
 
@@ -64,21 +67,17 @@ has_kind kind x = index_of x.kind == index_of kind
 abbrev pub text_if : TokenKind → Lexeme → Option Lexeme
 text_if kind x = if has_kind kind x then Some x else None
 
-abbrev pub take_kind : TokenKind → List Lexeme → Took Lexeme
+unfoldable pub take_kind : TokenKind → List Lexeme → Took Lexeme
 take_kind kind xs = take_one (text_if kind) xs
 
 -- ---- numbers and expressions
 
--- a number with its sign: none where it is misspelt or out of range; and the column of its first token
-pub record Literal : Type 0 where
-  pub value : Option ℤ
-  pub column : ℕ
-
+-- a number with its sign
 abbrev pub take_number : Bool → Option ℕ → List Lexeme → Took Literal
 take_number negative None xs = then_take (take_kind Number xs) (λ x rest. Taken (record { value = signed_number negative (number_spelt x.text); column = x.column }) rest)
 take_number negative (Some column) xs = then_take (take_kind Number xs) (λ x rest. Taken (record { value = signed_number negative (number_spelt x.text); column = column }) rest)
 
-abbrev pub take_literal : List Lexeme → Took Literal
+unfoldable pub take_literal : List Lexeme → Took Literal
 take_literal xs = if first_is (has_kind Minus) xs then then_take (take_kind Minus xs) (λ x rest. take_number true (Some x.column) rest) else take_number false None xs
 
 -- a number, a name, or a name with a number added to it or taken from it; and the column of its first token. The number is
@@ -99,18 +98,12 @@ take_offset name xs =
     then then_take (take_kind Minus xs) (λ _ rest. then_take (take_literal rest) (λ n rest. Taken (record { name = Some name.text; number = negated n.value; column = name.column }) rest))
     else Taken (record { name = Some name.text; number = Some (pos 0); column = name.column }) xs)
 
-abbrev pub take_expr : List Lexeme → Took Expr
+unfoldable pub take_expr : List Lexeme → Took Expr
 take_expr xs =
     if first_is (has_kind Word) xs then then_take (take_kind Word xs) take_offset
     else then_take (take_literal xs) (λ n rest. Taken (record { name = None; number = n.value; column = n.column }) rest)
 
 -- ---- immediates
-
--- which part of a number an immediate is
-pub data Part : Type 0 where
-  Whole : Part
-  High : Part
-  Low : Part
 
 pub record Imm : Type 0 where
   pub part : Part
@@ -128,7 +121,7 @@ take_part percent xs =
     then_take (take_one part_if xs) (λ part xs. then_take (take_kind Open xs) (λ _ xs. then_take (take_expr xs) (λ expr xs.
     then_take (take_kind Close xs) (λ _ xs. Taken (record { part = part; expr = expr; column = percent.column }) xs))))
 
-abbrev pub take_imm : List Lexeme → Took Imm
+unfoldable pub take_imm : List Lexeme → Took Imm
 take_imm xs =
     if first_is (has_kind Percent) xs then then_take (take_kind Percent xs) take_part
     else then_take (take_expr xs) (λ expr rest. Taken (record { part = Whole; expr = expr; column = expr.column }) rest)
@@ -138,11 +131,11 @@ take_imm xs =
 abbrev pub register_if : Lexeme → Option ℕ
 register_if x = if has_kind Word x then register_named x.text else None
 
-abbrev pub take_register : List Lexeme → Took ℕ
+unfoldable pub take_register : List Lexeme → Took ℕ
 take_register xs = take_one register_if xs
 
 -- a register in parentheses
-abbrev pub take_in_parentheses : List Lexeme → Took ℕ
+unfoldable pub take_in_parentheses : List Lexeme → Took ℕ
 take_in_parentheses xs =
     then_take (take_kind Open xs) (λ _ xs. then_take (take_register xs) (λ r xs. then_take (take_kind Close xs) (λ _ xs. Taken r xs)))
 
@@ -151,7 +144,7 @@ abbrev pub no_imm : Imm
 no_imm = record { part = Whole; expr = record { name = None; number = Some (pos 0); column = 0 }; column = 0 }
 
 -- an address: an immediate, which may be left out, and a register in parentheses
-abbrev pub take_memory : List Lexeme → Took (Imm × ℕ)
+unfoldable pub take_memory : List Lexeme → Took (Imm × ℕ)
 take_memory xs =
     if first_is (has_kind Open) xs then then_take (take_in_parentheses xs) (λ r xs. Taken (no_imm, r) xs)
     else then_take (take_imm xs) (λ imm xs. then_take (take_in_parentheses xs) (λ r xs. Taken (imm, r) xs))
@@ -160,14 +153,14 @@ abbrev pub zero_if : Lexeme → Option Lexeme
 zero_if x = if has_kind Number x && bytes_eq x.text (codes "0") then Some x else None
 
 -- an address: a register in parentheses, with or without a `0` in front
-abbrev pub take_base : List Lexeme → Took ℕ
+unfoldable pub take_base : List Lexeme → Took ℕ
 take_base xs = if first_is (has_kind Open) xs then take_in_parentheses xs else then_take (take_one zero_if xs) (λ _ xs. take_in_parentheses xs)
 
 abbrev pub fences_if : Lexeme → Option ℕ
 fences_if x = if has_kind Word x then fence_set x.text else None
 
 -- some of the letters i, o, r and w
-abbrev pub take_fences : List Lexeme → Took ℕ
+unfoldable pub take_fences : List Lexeme → Took ℕ
 take_fences xs = take_one fences_if xs
 
 -- ---- values of expressions
@@ -195,7 +188,7 @@ abbrev pub is_unknown : List (List ℕ × ℤ) → Lexeme → Bool
 is_unknown equs x = has_kind Word x && is_none (value_in equs x.text)
 
 -- an expression whose name is that of an earlier `.equ`, with its value where that is a number
-abbrev pub take_constant : List (List ℕ × ℤ) → List Lexeme → Took (Expr × Option ℤ)
+unfoldable pub take_constant : List (List ℕ × ℤ) → List Lexeme → Took (Expr × Option ℤ)
 take_constant equs xs =
     if first_is (is_unknown equs) xs then Stuck xs
     else then_take (take_expr xs) (λ expr xs. Taken (expr, if_in_range (expr_value equs expr)) xs)

@@ -1,0 +1,132 @@
+//! Jumps and branches: their operands, and the instructions that they stand for.
+
+ghost use Rattle.std.specs.Prelude.{◌≡◌, pos, [], IfOk};
+ghost use Rattle.pmsi_model.specs.declared.instr.Instr.TheVariants.{Branch};
+ghost use Rattle.asm_parse.specs.Operands.{further};
+ghost use Rattle.asm_parse.specs.Meanings.{lexemes, took};
+ghost use Rattle.asm_parse.specs.Items.{AreReady, instrs_of};
+ghost use Rattle.asm_parse.specs.Forms.{jal_form, jump_form, jalr_at_form, jalr_by_form, jump_register_form, first_if, branch_form, branch_zero_form};
+
+use crate::forms::{further, take_e, take_r, take_re, take_rm, take_rre, take_rri};
+use crate::item::Instrs::{self, One};
+use crate::item::Item;
+use crate::lexeme::{Lexeme, Took, taken};
+use pmsi_model::{BranchOp, Instr, Reg};
+
+/// `jal`, with a register to link in, or else x1.
+pub(crate) fn take_jal<'x, 'a>(xs: &'x [Lexeme<'a>]) -> Took<'x, 'a, Instrs<'a>>
+    ensures forms { took instrs_of result ≡ further (jal_form [] (lexemes xs.now)) (jump_form 1 [] (lexemes xs.now)) }
+    ensures sound { IfOk result (λ taken. AreReady taken.0) }
+{
+    further!(take_linking_jump(xs), take_jump(Reg::new(1), xs))
+}
+
+/// A jump with a register to link in.
+fn take_linking_jump<'x, 'a>(xs: &'x [Lexeme<'a>]) -> Took<'x, 'a, Instrs<'a>>
+    ensures forms { took instrs_of result ≡ jal_form [] (lexemes xs.now) }
+    ensures sound { IfOk result (λ taken. AreReady taken.0) }
+{
+    let ((rd, target), xs) = taken!(take_re(xs));
+    Ok((One(Item::Target(Instr::Jal { rd, offset: 0 }, target)), xs))
+}
+
+/// A jump that links in this register.
+pub(crate) fn take_jump<'x, 'a>(rd: Reg, xs: &'x [Lexeme<'a>]) -> Took<'x, 'a, Instrs<'a>>
+    ensures forms { took instrs_of result ≡ jump_form rd [] (lexemes xs.now) }
+    ensures sound { IfOk result (λ taken. AreReady taken.0) }
+{
+    let (target, xs) = taken!(take_e(xs));
+    Ok((One(Item::Target(Instr::Jal { rd, offset: 0 }, target)), xs))
+}
+
+/// `jalr`, with an address, with registers and an immediate, or with a register alone.
+pub(crate) fn take_jalr<'x, 'a>(xs: &'x [Lexeme<'a>]) -> Took<'x, 'a, Instrs<'a>>
+    ensures forms { took instrs_of result ≡ further (jalr_at_form [] (lexemes xs.now)) (further (jalr_by_form [] (lexemes xs.now)) (jump_register_form 1 [] (lexemes xs.now))) }
+    ensures sound { IfOk result (λ taken. AreReady taken.0) }
+{
+    further!(take_jalr_at(xs), take_jalr_by_registers(xs))
+}
+
+/// `jalr` without an address.
+fn take_jalr_by_registers<'x, 'a>(xs: &'x [Lexeme<'a>]) -> Took<'x, 'a, Instrs<'a>>
+    ensures forms { took instrs_of result ≡ further (jalr_by_form [] (lexemes xs.now)) (jump_register_form 1 [] (lexemes xs.now)) }
+    ensures sound { IfOk result (λ taken. AreReady taken.0) }
+{
+    further!(take_jalr_by(xs), take_jump_register(Reg::new(1), xs))
+}
+
+/// A jump to an address, with a link in a register.
+fn take_jalr_at<'x, 'a>(xs: &'x [Lexeme<'a>]) -> Took<'x, 'a, Instrs<'a>>
+    ensures forms { took instrs_of result ≡ jalr_at_form [] (lexemes xs.now) }
+    ensures sound { IfOk result (λ taken. AreReady taken.0) }
+{
+    let ((rd, imm, rs1), xs) = taken!(take_rm(xs));
+    Ok((
+        One(Item::Immediate(Instr::Jalr { rd, rs1, imm: 0 }, imm)),
+        xs,
+    ))
+}
+
+/// The same, with the immediate behind the registers.
+fn take_jalr_by<'x, 'a>(xs: &'x [Lexeme<'a>]) -> Took<'x, 'a, Instrs<'a>>
+    ensures forms { took instrs_of result ≡ jalr_by_form [] (lexemes xs.now) }
+    ensures sound { IfOk result (λ taken. AreReady taken.0) }
+{
+    let ((rd, rs1, imm), xs) = taken!(take_rri(xs));
+    Ok((
+        One(Item::Immediate(Instr::Jalr { rd, rs1, imm: 0 }, imm)),
+        xs,
+    ))
+}
+
+/// A jump to the address in a register, with a link in this one.
+pub(crate) fn take_jump_register<'x, 'a>(rd: Reg, xs: &'x [Lexeme<'a>]) -> Took<'x, 'a, Instrs<'a>>
+    ensures forms { took instrs_of result ≡ jump_register_form rd [] (lexemes xs.now) }
+    ensures sound { IfOk result (λ taken. AreReady taken.0) }
+{
+    let (rs1, xs) = taken!(take_r(xs));
+    Ok((One(Item::Known(Instr::Jalr { rd, rs1, imm: 0 })), xs))
+}
+
+/// A branch, maybe with its registers in the other order.
+pub(crate) fn take_branch<'x, 'a>(
+    op: BranchOp,
+    swapped: bool,
+    xs: &'x [Lexeme<'a>],
+) -> Took<'x, 'a, Instrs<'a>>
+    ensures forms { took instrs_of result ≡ branch_form op swapped [] (lexemes xs.now) }
+    ensures sound { IfOk result (λ taken. AreReady taken.0) }
+{
+    let ((a, b, target), xs) = taken!(take_rre(xs));
+    Ok((One(Item::Target(branch(op, swapped, a, b), target)), xs))
+}
+
+/// A branch on a register and x0, maybe in the other order.
+pub(crate) fn take_branch_zero<'x, 'a>(
+    op: BranchOp,
+    swapped: bool,
+    xs: &'x [Lexeme<'a>],
+) -> Took<'x, 'a, Instrs<'a>>
+    ensures forms { took instrs_of result ≡ branch_zero_form op swapped [] (lexemes xs.now) }
+    ensures sound { IfOk result (λ taken. AreReady taken.0) }
+{
+    let ((register, target), xs) = taken!(take_re(xs));
+    let zero = Reg::new(0);
+    Ok((
+        One(Item::Target(branch(op, swapped, register, zero), target)),
+        xs,
+    ))
+}
+
+/// A branch whose offset is 0 so far.
+fn branch(op: BranchOp, swapped: bool, a: Reg, b: Reg) -> Instr
+    ensures { result ≡ Branch op (first_if swapped b a) (first_if swapped a b) (pos 0) }
+{
+    let (rs1, rs2) = if swapped { (b, a) } else { (a, b) };
+    Instr::Branch {
+        op,
+        rs1,
+        rs2,
+        offset: 0,
+    }
+}

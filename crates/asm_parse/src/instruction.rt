@@ -1,0 +1,212 @@
+//! Reads the operands of instructions and pseudo-instructions.
+
+ghost use Rattle.std.specs.Prelude.{◌≡◌, ◌<◌, ℕ, ℤ, pos, List, [], true, IfOk};
+ghost use Rattle.pmsi_model.specs.declared.instr.Instr.TheVariants.{Jalr, Op, OpImm, Fence};
+ghost use Rattle.asm_parse.specs.Operands.{further};
+ghost use Rattle.asm_parse.specs.Mnemonics.{take_forms, no_operands, ready, form_rr, form_re, form_rc, load_address, load_immediate, fence_word};
+ghost use Rattle.asm_parse.specs.Meanings.{lexemes, took};
+ghost use Rattle.asm_parse.specs.NameTable.{HasConstants};
+ghost use Rattle.asm_parse.specs.Items.{AreReady, instrs_of, is_ready, op_takes};
+ghost use Rattle.asm_parse.specs.Forms.{forms_of, memory_form, operation_form, fence_form};
+
+use crate::control::{
+    take_branch, take_branch_zero, take_jal, take_jalr, take_jump, take_jump_register,
+};
+use crate::forms::{
+    further, take_ff, take_rc, take_re, take_ri, take_rm, take_rr, take_rrb, take_rri, take_rrr,
+};
+use crate::item::Instrs::{self, One};
+use crate::item::Item;
+use crate::lexeme::{Lexeme, Took, taken};
+use crate::loading::{load_address, load_immediate, op_imm};
+use crate::mnemonic::{Memory, Mnemonic, Operation};
+use crate::names::Names;
+use crate::operands::ends;
+use pmsi_model::{ImmOp, Instr, Reg, RegOp};
+
+/// The instructions that a line with this mnemonic and these operands stands for.
+#[tactic(auto, unfolding(crate::specs::Mnemonics::take_forms))]
+pub(crate) fn take_instrs<'x, 'a>(
+    mnemonic: Mnemonic,
+    xs: &'x [Lexeme<'a>],
+    names: &Names<'a>,
+) -> Took<'x, 'a, Instrs<'a>>
+    ensures forms { (equs : List (List ℕ × ℤ)) → HasConstants names.now equs → took instrs_of result ≡ take_forms (forms_of mnemonic) equs (lexemes xs.now) }
+    ensures sound { IfOk result (λ taken. AreReady taken.0) }
+{
+    let zero = Reg::new(0);
+    match mnemonic {
+        Mnemonic::Jal => take_jal(xs),
+        Mnemonic::Jalr => take_jalr(xs),
+        Mnemonic::Jump(rd) => take_jump(rd, xs),
+        Mnemonic::JumpRegister => take_jump_register(zero, xs),
+        Mnemonic::Branch { op, swapped } => take_branch(op, swapped, xs),
+        Mnemonic::BranchZero { op, swapped } => take_branch_zero(op, swapped, xs),
+        Mnemonic::Memory(memory) => take_access(memory, xs),
+        Mnemonic::Operation(operation) => take_operation(operation, xs),
+        Mnemonic::Fence => take_fence(xs),
+        Mnemonic::Ecall => take_bare(Instr::Ecall, xs),
+        Mnemonic::Ebreak => take_bare(Instr::Ebreak, xs),
+        Mnemonic::Nop => take_bare(op_imm(ImmOp::Addi, zero, zero, 0), xs),
+        Mnemonic::Ret => take_bare(ret(), xs),
+        Mnemonic::Li => take_li(xs, names),
+        Mnemonic::La => take_la(xs),
+    }
+}
+
+/// A jump to where the last call came from.
+fn ret() -> Instr
+    ensures { result ≡ Jalr 0 1 (pos 0) }
+{
+    Instr::Jalr {
+        rd: Reg::new(0),
+        rs1: Reg::new(1),
+        imm: 0,
+    }
+}
+
+fn take_bare<'x, 'a>(instr: Instr, xs: &'x [Lexeme<'a>]) -> Took<'x, 'a, Instrs<'a>>
+    requires { is_ready instr ≡ true }
+    ensures forms { took instrs_of result ≡ no_operands (ready instr) [] (lexemes xs.now) }
+    ensures sound { IfOk result (λ taken. AreReady taken.0) }
+{
+    let (_, xs) = ends((), xs)?;
+    Ok((One(Item::Known(instr)), xs))
+}
+
+/// An instruction that has an address.
+fn take_access<'x, 'a>(memory: Memory, xs: &'x [Lexeme<'a>]) -> Took<'x, 'a, Instrs<'a>>
+    ensures forms { took instrs_of result ≡ memory_form memory [] (lexemes xs.now) }
+    ensures sound { IfOk result (λ taken. AreReady taken.0) }
+{
+    match memory {
+        Memory::Load(op) => {
+            let ((rd, imm, rs1), xs) = taken!(take_rm(xs));
+            let load = Instr::Load {
+                op,
+                rd,
+                rs1,
+                imm: 0,
+            };
+            Ok((One(Item::Immediate(load, imm)), xs))
+        }
+        Memory::Store(op) => {
+            let ((rs2, imm, rs1), xs) = taken!(take_rm(xs));
+            let store = Instr::Store {
+                op,
+                rs1,
+                rs2,
+                imm: 0,
+            };
+            Ok((One(Item::Immediate(store, imm)), xs))
+        }
+        Memory::Amo { op, aq, rl } => {
+            let ((rd, rs2, rs1), xs) = taken!(take_rrb(xs));
+            let amo = Instr::Amo {
+                op,
+                rd,
+                rs1,
+                rs2,
+                aq,
+                rl,
+            };
+            Ok((One(Item::Known(amo)), xs))
+        }
+    }
+}
+
+/// An operation on registers and immediates.
+fn take_operation<'x, 'a>(operation: Operation, xs: &'x [Lexeme<'a>]) -> Took<'x, 'a, Instrs<'a>>
+    ensures forms { took instrs_of result ≡ operation_form operation [] (lexemes xs.now) }
+    ensures sound { IfOk result (λ taken. AreReady taken.0) }
+{
+    let zero = Reg::new(0);
+    match operation {
+        Operation::Lui => {
+            let ((rd, imm), xs) = taken!(take_ri(xs));
+            Ok((One(Item::Immediate(Instr::Lui { rd, imm: 0 }, imm)), xs))
+        }
+        Operation::Auipc => {
+            let ((rd, imm), xs) = taken!(take_ri(xs));
+            Ok((One(Item::Immediate(Instr::Auipc { rd, imm: 0 }, imm)), xs))
+        }
+        Operation::Imm(op) => {
+            let ((rd, rs1, imm), xs) = taken!(take_rri(xs));
+            Ok((One(Item::Immediate(op_imm(op, rd, rs1, 0), imm)), xs))
+        }
+        Operation::Reg(op) => {
+            let ((rd, rs1, rs2), xs) = taken!(take_rrr(xs));
+            Ok((One(Item::Known(op_reg(op, rd, rs1, rs2))), xs))
+        }
+        Operation::Mv => take_unary(ImmOp::Addi, 0, xs),
+        Operation::Not => take_unary(ImmOp::Xori, -1, xs),
+        Operation::Seqz => take_unary(ImmOp::Sltiu, 1, xs),
+        Operation::RegZero(op) => {
+            let ((rd, rs1), xs) = taken!(take_rr(xs));
+            Ok((One(Item::Known(op_reg(op, rd, rs1, zero))), xs))
+        }
+        Operation::ZeroReg(op) => {
+            let ((rd, rs2), xs) = taken!(take_rr(xs));
+            Ok((One(Item::Known(op_reg(op, rd, zero, rs2))), xs))
+        }
+    }
+}
+
+/// An operation on a register with this immediate.
+fn take_unary<'x, 'a>(op: ImmOp, imm: i32, xs: &'x [Lexeme<'a>]) -> Took<'x, 'a, Instrs<'a>>
+    requires { op_takes op imm ≡ true }
+    ensures forms { took instrs_of result ≡ form_rr (λ rd rs. ready (OpImm op rd rs imm)) [] (lexemes xs.now) }
+    ensures sound { IfOk result (λ taken. AreReady taken.0) }
+{
+    let ((rd, rs1), xs) = taken!(take_rr(xs));
+    Ok((One(Item::Known(op_imm(op, rd, rs1, imm))), xs))
+}
+
+/// An operation on two registers.
+fn op_reg(op: RegOp, rd: Reg, rs1: Reg, rs2: Reg) -> Instr
+    ensures { result ≡ Op op rd rs1 rs2 }
+{
+    Instr::Op { op, rd, rs1, rs2 }
+}
+
+fn take_fence<'x, 'a>(xs: &'x [Lexeme<'a>]) -> Took<'x, 'a, Instrs<'a>>
+    ensures forms { took instrs_of result ≡ further (no_operands (ready (Fence (fence_word 15 15))) [] (lexemes xs.now)) (fence_form [] (lexemes xs.now)) }
+    ensures sound { IfOk result (λ taken. AreReady taken.0) }
+{
+    further!(take_bare(fence(15, 15), xs), take_fence_sets(xs))
+}
+
+/// A fence with two sets.
+fn take_fence_sets<'x, 'a>(xs: &'x [Lexeme<'a>]) -> Took<'x, 'a, Instrs<'a>>
+    ensures forms { took instrs_of result ≡ fence_form [] (lexemes xs.now) }
+    ensures sound { IfOk result (λ taken. AreReady taken.0) }
+{
+    let ((before, after), xs) = taken!(take_ff(xs));
+    Ok((One(Item::Known(fence(before, after))), xs))
+}
+
+/// The fence of two sets.
+fn fence(before: u32, after: u32) -> Instr
+    requires { (before < 16) × (after < 16) }
+    ensures { result ≡ Fence (fence_word before after) }
+{
+    Instr::Fence {
+        word: (before << 24) + (after << 20) + 0xf,
+    }
+}
+
+fn take_li<'x, 'a>(xs: &'x [Lexeme<'a>], names: &Names<'a>) -> Took<'x, 'a, Instrs<'a>>
+    ensures forms { (equs : List (List ℕ × ℤ)) → HasConstants names.now equs → took instrs_of result ≡ form_rc load_immediate equs (lexemes xs.now) }
+    ensures sound { IfOk result (λ taken. AreReady taken.0) }
+{
+    let ((rd, expr, value), xs) = taken!(take_rc(xs, names));
+    Ok((load_immediate(rd, &expr, value), xs))
+}
+
+fn take_la<'x, 'a>(xs: &'x [Lexeme<'a>]) -> Took<'x, 'a, Instrs<'a>>
+    ensures forms { took instrs_of result ≡ form_re load_address [] (lexemes xs.now) }
+    ensures sound { IfOk result (λ taken. AreReady taken.0) }
+{
+    let ((rd, address), xs) = taken!(take_re(xs));
+    Ok((load_address(rd, &address), xs))
+}

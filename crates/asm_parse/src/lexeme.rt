@@ -1,0 +1,86 @@
+//! Tokens with their texts.
+
+ghost use Rattle.std.specs.Prelude.{◌≡◌, ◌≢◌, ◌+◌, ◌≤◌, length, map, None, Some, option_map, IfOk, IfErr};
+ghost use Rattle.std.specs.List.{position};
+ghost use Rattle.pmsi_model.specs.declared.limits.TheConstants.{MAX_FILE_BYTES};
+ghost use Rattle.asm_parse.specs.declared.fault.TokenFault.TheVariants.{Character};
+ghost use Rattle.asm_parse.specs.declared.lexeme.Stop.TheVariants.{Misfit};
+ghost use Rattle.asm_parse.specs.Tokens.{code_of, token_at, is_strange};
+ghost use Rattle.asm_parse.specs.Operands.{lexeme_of, lexemes_of};
+ghost use Rattle.asm_parse.specs.Meanings.{lexeme, lexemes};
+
+use crate::fault::TokenFault;
+use crate::lexer::tokens;
+use crate::token::{Token, TokenKind};
+use pmsi_model::limits::MAX_FILE_BYTES;
+use std::alloc::Global;
+
+/// A token with its text. The column is counted in bytes, from 1 on.
+#[derive(Clone, Copy, Debug, PartialEq, Eq)]
+pub struct Lexeme<'a> {
+    pub kind: TokenKind,
+    pub text: &'a str,
+    pub column: u32,
+}
+
+/// Something that was taken from the front of some tokens, with the tokens that are left; or the tokens from the one on
+/// that doesn't fit.
+pub(crate) type Took<'x, 'a, T> = Result<(T, &'x [Lexeme<'a>]), &'x [Lexeme<'a>]>;
+
+/// What was taken and the tokens that are left; where something doesn't fit, the function ends with it, as by `?`, which
+/// the borrow checker doesn't cover for a value that has both a reference and an invariant.
+macro_rules! taken {
+    ($took:expr) => {
+        match $took {
+            Ok(taken) => taken,
+            Err(left) => return Err(From::from(left)),
+        }
+    };
+}
+
+pub(crate) use taken;
+
+/// Why operands weren't taken where memory may run out.
+#[derive(Clone, Copy, Debug)]
+pub(crate) enum Stop<'x, 'a> {
+    /// The tokens from the one on that doesn't fit.
+    Misfit(&'x [Lexeme<'a>]),
+    /// Memory ran out.
+    NoMemory,
+}
+
+impl<'x, 'a> From<&'x [Lexeme<'a>]> for Stop<'x, 'a> {
+    ghost from_gives = { λ left e. e ≡ Misfit left };
+
+    fn from(left: &'x [Lexeme<'a>]) -> Stop<'x, 'a> {
+        Stop::Misfit(left)
+    }
+}
+
+/// The tokens of a line.
+#[tactic(auto, using(crate::proofs::Texts::line_read, crate::proofs::Texts::line_unread, crate::proofs::Texts::token_begins))]
+pub(crate) fn lexemes<'a>(alloc: Global, line: &'a str) -> Result<Vec<Lexeme<'a>>, TokenFault>
+    requires { length line.now ≤ MAX_FILE_BYTES }
+    ensures lexemes { IfOk result (λ v. (lexemes v.items ≡ lexemes_of (code_of line.now)) × (position is_strange (code_of line.now) ≡ None)) }
+    ensures fault { IfErr result (λ e. e ≢ TokenFault.NoMemory → option_map (λ place. Character (place + 1)) (position is_strange (code_of line.now)) ≡ Some e) }
+{
+    let tokens = tokens(alloc, line)?;
+    let mut lexemes = Vec::new(alloc);
+    for token in &tokens {
+        lexemes.push(lexeme_of(line, *token))?;
+    }
+    Ok(lexemes)
+}
+
+/// A token of the line, with its text.
+fn lexeme_of<'a>(line: &'a str, token: Token) -> Lexeme<'a>
+    requires token { token_at (code_of line.now) token.start ≡ Some token }
+    requires fits { length line.now ≤ MAX_FILE_BYTES }
+    ensures { lexeme result ≡ lexeme_of (code_of line.now) token }
+{
+    Lexeme {
+        kind: token.kind,
+        text: &line[token.start as usize..token.end as usize],
+        column: token.start + 1,
+    }
+}
