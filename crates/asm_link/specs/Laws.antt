@@ -1,0 +1,13 @@
+-- Laws of sources and their images.
+use Rattle.std.specs.Prelude.{◌≡◌, ℕ, List}
+use Rattle.pmsi_model.specs.Image.{ImageValue}
+use Rattle.asm_parse.specs.declared.fault.AsmFault.{AsmFault}
+use Rattle.asm_parse.specs.Assembly.{IsAssembled, HasAsmFault}
+
+-- a source has one image at most
+abbrev pub AssemblesOnce : Type 0
+AssemblesOnce = (source : List ℕ) (image other : ImageValue) → IsAssembled source image → IsAssembled source other → image ≡ other
+
+-- and has no fault then
+abbrev pub ImagesHaveNoFault : Type 0
+ImagesHaveNoFault = (source : List ℕ) (image : ImageValue) (fault : AsmFault) → IsAssembled source image → HasAsmFault source fault → ⊥

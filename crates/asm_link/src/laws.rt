@@ -1,0 +1,9 @@
+//! Laws of the definitions: a function has an empty body, and its contract is the law.
+
+ghost use Rattle.asm_link.specs.Laws.{AssemblesOnce, ImagesHaveNoFault};
+
+/// A source has one image at most, and no fault where it has one.
+pub fn assembles_once()
+    ensures one { AssemblesOnce }
+    ensures faultless { ImagesHaveNoFault }
+{}
