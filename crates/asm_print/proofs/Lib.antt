@@ -1,1 +1,12 @@
 pub mod GrownTexts
+pub mod Spelling
+pub mod Spelt
+pub mod OperandTexts
+pub mod FormTexts
+pub mod Ranges
+pub mod TextLines
+pub mod InstrLines
+pub mod Steps
+pub mod DataLines
+pub mod PieceRuns
+pub mod Sources

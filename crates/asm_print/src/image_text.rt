@@ -4,6 +4,7 @@ ghost use Rattle.std.specs.List.{flat_map};
 ghost use Rattle.pmsi_model.specs.declared.limits.TheConstants.{MAX_TEXT_WORDS};
 ghost use Rattle.pmsi_model.specs.Lines.{hex_word as word_digits};
 ghost use Rattle.pmsi_model.specs.Instruction.{instr_of};
+ghost use Rattle.asm_parse.specs.Assembly.{IsAssembled};
 ghost use Rattle.asm_print.specs.InstrText.{instr_text, word_text};
 ghost use Rattle.asm_print.specs.ListingText.{text_of, text_line, text_lines, byte_text, byte_line, byte_lines, piece_text, data_text, listing_text};
 
@@ -145,10 +146,11 @@ fn push_data(out: &mut Vec<u8>, pieces: &[Piece]) -> Result<(), AllocError>
     push_pieces(out, pieces)
 }
 
-/// The assembly text of an image.
+/// The assembly text of an image, which assembles to it.
 #[tactic(auto, unfolding(crate::specs::ListingText::listing_text))]
 pub fn listing_of(alloc: Global, image: &Image) -> Result<Vec<u8>, NoMemory>
-    ensures { IfOk result (λ text. text.items ≡ listing_text image.now) }
+    ensures text { IfOk result (λ text. text.items ≡ listing_text image.now) }
+    ensures assembles { IfOk result (λ text. IsAssembled text.items image.now) }
 {
     let mut out = Vec::new(alloc);
     push_text(&mut out, ".text\n")?;

@@ -1,12 +1,9 @@
 -- From the causes of an answer to the clauses of a call.
-use Rattle.std.proofs.Common.{subst, ◌≡◌, ◌≢◌, ◌⊎◌, inl, inr, ℕ, ◌+◌, ◌<◌, ◌≤◌, List, [], ◌∷◌, length, get_or, replicate, refl, sym, ap, ◌∙◌, arith}
+use Rattle.std.proofs.Common.{subst, ◌≡◌, ◌⊎◌, inl, inr, ℕ, ◌+◌, ◌<◌, List, [], length, get_or, replicate, refl, sym, ap, ◌∙◌, arith}
 use Rattle.std.proofs.lemmas.List.{length-replicate}
-use Rattle.std.specs.Prelude.{Option, None, Some, IsSomeAnd, Result, Ok, Err, IfOk, IfErr}
-use Rattle.std.specs.Io.KnownBytes.{Appends}
+use Rattle.std.specs.Prelude.{◌==◌, if◌then◌else◌, Option, None, Some, IsSomeAnd, Result, Ok, Err, IfOk, IfErr}
 use Rattle.pmsi_model.specs.Job.{JobValue, IsJob}
-use Rattle.pmsi_outside.specs.Causes.{Rose}
 use Rattle.pmsi_outside.specs.Files.{Contents, Tells}
-use Rattle.pmsi_outside.specs.Sink.{AppendsPart}
 use Rattle.image_file.proofs.Images.{not_both as never_both}
 use Rattle.coherence_laws.proofs.Slots.{stays_coherent}
 use Rattle.latest_laws.proofs.Runs.{always_reads_latest}
@@ -16,12 +13,10 @@ use Rattle.pmsi_tool.specs.declared.complaint.Complaint.{Complaint}
 use Rattle.pmsi_tool.specs.declared.complaint.Complaint.TheVariants.{Usage, ReadFault, Refused, NoMemory}
 use Rattle.pmsi_tool.specs.Words.{IsCommand, word_of}
 use Rattle.pmsi_tool.specs.declared.words.Command.{Command}
-use Rattle.pmsi_tool.specs.declared.words.Command.TheVariants.{Run, Dis, Image}
-use Rattle.pmsi_tool.specs.declared.complaint.Refusal.TheVariants.{Large, NotBuilt, NoImage}
+use Rattle.pmsi_tool.specs.declared.words.Command.TheVariants.{Run, Asm, Dis, Image}
+use Rattle.pmsi_tool.specs.declared.complaint.Refusal.TheVariants.{Large, NotBuilt, NoImage, NotText, AtLine}
 use Rattle.pmsi_tool.specs.declared.ToolStatus.{ToolStatus}
-use Rattle.pmsi_tool.specs.declared.ToolStatus.TheVariants.{Done as DoneStatus, Usage as UsageStatus, ReadFault as ReadFaultStatus, WriteFault as WriteFaultStatus, Refused as RefusedStatus, NoMemory as NoMemoryStatus}
-use Rattle.pmsi_tool.specs.Lines.{line_of}
-use Rattle.pmsi_model.specs.declared.limits.TheConstants.{MAX_FILE_BYTES}
+use Rattle.pmsi_tool.specs.declared.ToolStatus.TheVariants.{Done as DoneStatus, ReadFault as ReadFaultStatus, WriteFault as WriteFaultStatus, Refused as RefusedStatus, NoMemory as NoMemoryStatus}
 use Rattle.pmsi_tool.specs.Results.{Gives, Holds, IsFaithful, IsRefused, IsResultOf, Reads, Refuses, RefusesAt}
 use Rattle.pmsi_tool.specs.Statuses.{ErrFails, IsTold, Stands, StandsAt, status_of}
 
@@ -81,16 +76,18 @@ if_err P Q (Err e) f p = f e p
 same_name : (words : List (List ℕ)) (command command' : Command) (name name' : List ℕ) → IsCommand words command name → IsCommand words command' name' → name ≡ name'
 same_name words command command' name name' one other = ap (λ (l : List (List ℕ)). get_or l 1 []) (sym one.spelt ∙ other.spelt)
 
+-- the command of a word, by its first letter
+abbrev by_letter : ℕ → Command
+by_letter letter = if letter == 114 then Run else (if letter == 97 then Asm else (if letter == 100 then Dis else Image))
+
+by_its_letter : (command : Command) → by_letter (get_or (word_of command) 0 0) ≡ command
+by_its_letter Run = refl
+by_its_letter Asm = refl
+by_its_letter Dis = refl
+by_its_letter Image = refl
+
 command_by_word : (command command' : Command) → word_of command ≡ word_of command' → command ≡ command'
-command_by_word Run Run same = refl
-command_by_word Run Dis same = let first : 114 ≡ 100 = ap (λ (l : List ℕ). get_or l 0 0) same in absurd (omega (arith, first))
-command_by_word Run Image same = absurd cc
-command_by_word Dis Run same = let first : 100 ≡ 114 = ap (λ (l : List ℕ). get_or l 0 0) same in absurd (omega (arith, first))
-command_by_word Dis Dis same = refl
-command_by_word Dis Image same = absurd cc
-command_by_word Image Run same = absurd cc
-command_by_word Image Dis same = absurd cc
-command_by_word Image Image same = refl
+command_by_word command command' same = sym (by_its_letter command) ∙ ap (λ (l : List ℕ). by_letter (get_or l 0 0)) same ∙ by_its_letter command'
 
 same_command : (words : List (List ℕ)) (command command' : Command) (name name' : List ℕ) → IsCommand words command name → IsCommand words command' name' → command ≡ command'
 same_command words command command' name name' one other = command_by_word command command' (ap (λ (l : List (List ℕ)). get_or l 0 []) (sym one.spelt ∙ other.spelt))
@@ -105,14 +102,17 @@ same_held (Some contents) name held other holds reads = same_told (contents name
 -- bytes that are accepted aren't refused
 not_both : (command : Command) (held text : List ℕ) (refusal : Refusal) → IsResultOf command held text → IsRefused refusal command held → ⊥
 not_both Run held text Large is refused = let within = is.1.within in omega arith
+not_both Asm held text Large is refused = let within = is.1.within in omega arith
 not_both Dis held text Large is refused = let within = is.1.within in omega arith
 not_both Image held text Large is refused = let within = is.1.within in omega arith
 not_both Run held text NotBuilt is refused = refused.1 is.0 is.1.job_text
-not_both Dis held text NotBuilt is refused = refused
-not_both Image held text NotBuilt is refused = refused
-not_both Run held text (NoImage fault) is refused = refused
+not_both Asm held text NotText is refused = refused.1 is.1.utf8
+not_both Asm held text (AtLine line cause) is refused =
+    let none = is.1.assembled.faultless in
+    let some = refused.2 in absurd cc
 not_both Dis held text (NoImage fault) is refused = never_both is.0 fault held is.1.bytes refused.1
 not_both Image held text (NoImage fault) is refused = never_both is.0 fault held is.1.bytes refused.1
+not_both command held text refusal is refused = refused
 
 -- where contents are told, an accepted file isn't refused
 accepted : (words : List (List ℕ)) (contents : Option Contents) (command : Command) (name held text : List ℕ) (refusal : Refusal) → IsCommand words command name → Holds contents name held → IsResultOf command held text

@@ -1,5 +1,5 @@
 -- The words of a call.
-use Rattle.std.proofs.Common.{◌≡◌, ℕ, ◌<◌, ◌≤◌, List, [], ◌∷◌, length, map, get_or, refl, sym, ap, ◌∙◌, arith}
+use Rattle.std.proofs.Common.{◌≡◌, ◌<◌, ◌≤◌, List, [], ◌∷◌, length, get_or, refl, arith}
 
 -- a list of two
 pub two : {A : Type 0} → (items : List A) (first second : A) → 2 ≤ length items → length items < 3 → first ≡ get_or items 0 first → second ≡ get_or items 1 second → items ≡ first ∷ second ∷ []

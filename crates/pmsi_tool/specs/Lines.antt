@@ -1,10 +1,13 @@
 -- The lines that are told on `err`.
 use Rattle.std.specs.Prelude.{ℕ, List, ◌++◌, codes, decimal}
+use Rattle.std.specs.Fmt.{signed_decimal}
 use Rattle.pmsi_model.specs.Lines.{hex_word}
+use Rattle.asm_parse.specs.declared.fault.AsmCause.{AsmCause}
+use Rattle.asm_parse.specs.declared.fault.AsmCause.TheVariants as cause
 use Rattle.image_file.specs.declared.fault.ImageFault.{ImageFault}
 use Rattle.image_file.specs.declared.fault.ImageFault.TheVariants.{Short, Magic, Limit, Range, Order, Extra, NoMemory as NoMemoryForImage}
 use Rattle.pmsi_tool.specs.declared.complaint.Refusal.{Refusal}
-use Rattle.pmsi_tool.specs.declared.complaint.Refusal.TheVariants.{Large, NotBuilt, NoImage}
+use Rattle.pmsi_tool.specs.declared.complaint.Refusal.TheVariants.{Large, NotBuilt, NoImage, NotText, AtLine}
 use Rattle.pmsi_tool.specs.declared.complaint.Complaint.{Complaint}
 use Rattle.pmsi_tool.specs.declared.complaint.Complaint.TheVariants.{Usage, ReadFault, Refused, NoMemory}
 
@@ -31,10 +34,25 @@ fault_text (Order piece) = codes "order " ++ decimal piece
 fault_text (Extra place) = codes "extra " ++ decimal place
 fault_text NoMemoryForImage = codes "no memory"
 
+-- what is wrong with a line of assembly: where its column is told it is counted from 1 on, and a distance has its sign
+abbrev pub cause_text : AsmCause → List ℕ
+cause_text (cause.Character column) = codes "character " ++ decimal column
+cause_text (cause.Word column) = codes "word " ++ decimal column
+cause_text (cause.Operand column) = codes "operand " ++ decimal column
+cause_text (cause.Number column) = codes "number " ++ decimal column
+cause_text cause.TextLong = codes "text long"
+cause_text (cause.Twice column) = codes "twice " ++ decimal column
+cause_text (cause.Overlap address) = codes "overlap " ++ hex_word address
+cause_text (cause.Range address) = codes "range " ++ hex_word address
+cause_text (cause.Unknown column) = codes "unknown " ++ decimal column
+cause_text (cause.Reach distance) = codes "reach " ++ signed_decimal distance
+
 abbrev pub detail_of : Refusal → List ℕ
 detail_of Large = codes "large"
 detail_of NotBuilt = codes "not built"
 detail_of (NoImage fault) = fault_text fault
+detail_of NotText = codes "not text"
+detail_of (AtLine line found) = codes "line " ++ decimal line ++ codes ": " ++ cause_text found
 
 abbrev pub refused_line : Refusal → List ℕ
 refused_line refusal = codes "refused: input: " ++ detail_of refusal ++ codes "\n"

@@ -1,5 +1,6 @@
 -- What the file that the words of a call name gives: a result, or a refusal.
 use Rattle.std.specs.Prelude.{◌≡◌, ℕ, ◌<◌, ◌≤◌, ⊤, List, length, Option, Some, IsSomeAnd}
+use Rattle.std.specs.Str.{IsUtf8}
 use Rattle.pmsi_model.specs.declared.limits.TheConstants.{MAX_FILE_BYTES}
 use Rattle.pmsi_model.specs.Job.{JobValue}
 use Rattle.pmsi_model.specs.Image.{ImageValue}
@@ -10,13 +11,15 @@ use Rattle.pmsi_model.specs.Latest.{ReadsLatestWrite}
 use Rattle.pmsi_model.specs.Waiting.{WaitsAreBounded}
 use Rattle.pmsi_outside.specs.Files.{Contents, Tells}
 use Rattle.job_text.specs.JobText.{IsTextOf}
+use Rattle.asm_parse.specs.Assembly.{IsAssembled, HasAsmFault}
+use Rattle.asm_parse.specs.declared.fault.AsmFault.TheVariants.{At}
 use Rattle.asm_print.specs.ListingText.{listing_text}
 use Rattle.image_file.specs.Format.{IsBytesOf, image_bytes}
 use Rattle.image_file.specs.Checks.{HasFault}
 use Rattle.pmsi_tool.specs.declared.words.Command.{Command}
-use Rattle.pmsi_tool.specs.declared.words.Command.TheVariants.{Run, Dis, Image}
+use Rattle.pmsi_tool.specs.declared.words.Command.TheVariants.{Run, Asm, Dis, Image}
 use Rattle.pmsi_tool.specs.declared.complaint.Refusal.{Refusal}
-use Rattle.pmsi_tool.specs.declared.complaint.Refusal.TheVariants.{Large, NotBuilt, NoImage}
+use Rattle.pmsi_tool.specs.declared.complaint.Refusal.TheVariants.{Large, NotBuilt, NoImage, NotText, AtLine}
 use Rattle.pmsi_tool.specs.declared.complaint.Complaint.{Complaint}
 use Rattle.pmsi_tool.specs.declared.complaint.Complaint.TheVariants.{Usage, ReadFault, Refused, NoMemory}
 use Rattle.pmsi_tool.specs.Words.{IsCommand}
@@ -39,9 +42,17 @@ pub record IsTextOfImage (image : ImageValue) (held text : List ℕ) : Type 0 wh
   pub bytes : IsBytesOf image held
   pub printed : text ≡ listing_text image
 
+-- the bytes are a source of this image, in UTF-8, and the text is the image's bytes
+pub record IsAssembledImage (image : ImageValue) (held text : List ℕ) : Type 0 where
+  pub within : length held ≤ MAX_FILE_BYTES
+  pub utf8 : IsUtf8 held
+  pub assembled : IsAssembled held image
+  pub written : text ≡ image_bytes image
+
 -- the bytes are accepted, and the text is the result of the command
 abbrev pub IsResultOf : Command → List ℕ → List ℕ → Type 0
 IsResultOf Run held text = (job : JobValue) × IsListingOf job held text
+IsResultOf Asm held text = (image : ImageValue) × IsAssembledImage image held text
 IsResultOf Dis held text = (image : ImageValue) × IsTextOfImage image held text
 IsResultOf Image held text = (image : ImageValue) × IsImageOf image held text
 
@@ -49,11 +60,11 @@ IsResultOf Image held text = (image : ImageValue) × IsImageOf image held text
 abbrev pub IsRefused : Refusal → Command → List ℕ → Type 0
 IsRefused Large command held = MAX_FILE_BYTES < length held
 IsRefused NotBuilt Run held = (length held ≤ MAX_FILE_BYTES) × ((job : JobValue) → IsTextOf job held → ⊥)
-IsRefused NotBuilt Dis held = ⊥
-IsRefused NotBuilt Image held = ⊥
-IsRefused (NoImage fault) Run held = ⊥
+IsRefused NotText Asm held = (length held ≤ MAX_FILE_BYTES) × (IsUtf8 held → ⊥)
+IsRefused (AtLine line cause) Asm held = (length held ≤ MAX_FILE_BYTES) × IsUtf8 held × HasAsmFault held (At line cause)
 IsRefused (NoImage fault) Dis held = (length held ≤ MAX_FILE_BYTES) × HasFault held fault
 IsRefused (NoImage fault) Image held = (length held ≤ MAX_FILE_BYTES) × HasFault held fault
+IsRefused refusal command held = ⊥
 
 -- what holds of the written machine of a job, up to its slots: it is coherent at every slot boundary, every read takes the
 -- latest write in bus order, and what is left for a request and its age are within the bound together

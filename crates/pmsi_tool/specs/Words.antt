@@ -1,11 +1,12 @@
 -- The words of a call.
 use Rattle.std.specs.Prelude.{◌≡◌, ℕ, List, [], ◌∷◌, Bool, true, false, not, codes, ◌==◌}
 use Rattle.pmsi_tool.specs.declared.words.Command.{Command}
-use Rattle.pmsi_tool.specs.declared.words.Command.TheVariants.{Run, Dis, Image}
+use Rattle.pmsi_tool.specs.declared.words.Command.TheVariants.{Run, Asm, Dis, Image}
 
 -- the first word of a command
 abbrev pub word_of : Command → List ℕ
 word_of Run = codes "run"
+word_of Asm = codes "asm"
 word_of Dis = codes "dis"
 word_of Image = codes "image"
 

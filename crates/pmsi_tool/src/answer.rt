@@ -1,14 +1,18 @@
 //! The answer to a call, before anything is written.
 ghost use Rattle.std.specs.Prelude.{◌≡◌, ◌≤◌, ℕ, List, map, length, string_bytes, false, IfOk, IfErr};
+ghost use Rattle.std.specs.Str.{IsUtf8};
 ghost use Rattle.pmsi_model.specs.declared.limits.TheConstants.{MAX_FILE_BYTES};
-ghost use Rattle.pmsi_tool.specs.declared.words.Command.TheVariants.{Run, Dis, Image as ImageCommand};
+ghost use Rattle.pmsi_tool.specs.declared.words.Command.TheVariants.{Run, Asm, Dis, Image as ImageCommand};
 ghost use Rattle.pmsi_tool.specs.Results.{Gives, IsResultOf, Reads, RefusesAt};
-ghost use Rattle.image_file.specs.Format.{IsBytesOf};
+ghost use Rattle.image_file.specs.Format.{IsBytesOf, image_bytes};
+ghost use Rattle.asm_parse.specs.Assembly.{IsAssembled};
 ghost use Rattle.pmsi_tool.specs.Statuses.{Stands, StandsAt};
 ghost use Rattle.pmsi_model.specs.Listing.{listing_of};
 
 use crate::complaint::{Complaint, Refusal};
 use crate::words::{Command, command_of};
+use asm_link::assemble;
+use asm_parse::AsmFault;
 use asm_print::listing_of;
 use image_file::{ImageFault, read_image, write_image};
 use job_text::{JobFault, read_job};
@@ -17,6 +21,7 @@ use pmsi_model::{Image, Job, Keep, NoMemory};
 use pmsi_outside::{Files, ReadAll, read_whole};
 use sim_serial::Sim;
 use std::alloc::Global;
+use std::str::from_utf8;
 
 /// The result of the command that the words give, or what is to be told.
 pub(crate) fn answer_of<F: Files>(
@@ -44,6 +49,7 @@ fn result_of(alloc: Global, command: Command, bytes: &[u8]) -> Result<Vec<u8>, C
 {
     match command {
         Command::Run => run_text(alloc, bytes),
+        Command::Asm => assembled_bytes(alloc, bytes),
         Command::Dis => image_text(alloc, bytes),
         Command::Image => image_bytes(alloc, bytes),
     }
@@ -98,6 +104,32 @@ fn run_job(alloc: Global, job: &Job) -> Result<Vec<u8>, NoMemory>
     listing(alloc, &sim)
 }
 
+/// The image of the source that these bytes are.
+fn assembled(alloc: Global, bytes: &[u8]) -> Result<Image, Complaint>
+    requires { length bytes.now ≤ MAX_FILE_BYTES }
+    ensures image { IfOk result (λ image. IsUtf8 bytes.now × IsAssembled bytes.now image) }
+    ensures complaint { IfErr result (λ complaint. RefusesAt Asm bytes.now complaint) }
+{
+    let Ok(source) = from_utf8(bytes) else {
+        return Err(Complaint::Refused(Refusal::NotText));
+    };
+    match assemble(alloc, source) {
+        Ok(image) => Ok(image),
+        Err(AsmFault::NoMemory) => Err(Complaint::NoMemory),
+        Err(AsmFault::At(line, cause)) => Err(Complaint::Refused(Refusal::AtLine(line, cause))),
+    }
+}
+
+/// The bytes of the image of the source that these bytes are.
+fn assembled_bytes(alloc: Global, bytes: &[u8]) -> Result<Vec<u8>, Complaint>
+    requires { length bytes.now ≤ MAX_FILE_BYTES }
+    ensures text { IfOk result (λ text. IsResultOf Asm bytes.now text.items) }
+    ensures complaint { IfErr result (λ complaint. RefusesAt Asm bytes.now complaint) }
+{
+    let image = assembled(alloc, bytes)?;
+    written(alloc, &image)
+}
+
 /// The image of these bytes.
 fn image_of(alloc: Global, bytes: &[u8]) -> Result<Image, Complaint>
     requires { length bytes.now ≤ MAX_FILE_BYTES }
@@ -131,8 +163,13 @@ fn image_bytes(alloc: Global, bytes: &[u8]) -> Result<Vec<u8>, Complaint>
     ensures complaint { IfErr result (λ complaint. RefusesAt ImageCommand bytes.now complaint) }
 {
     let image = image_of(alloc, bytes)?;
-    match write_image(alloc, &image) {
-        Ok(bytes) => Ok(bytes),
-        Err(NoMemory) => Err(Complaint::NoMemory),
-    }
+    written(alloc, &image)
+}
+
+/// The bytes of an image.
+fn written(alloc: Global, image: &Image) -> Result<Vec<u8>, Complaint>
+    ensures bytes { IfOk result (λ bytes. bytes.items ≡ image_bytes image.now) }
+    ensures complaint { IfErr result (λ complaint. complaint ≡ Complaint.NoMemory) }
+{
+    Ok(write_image(alloc, image)?)
 }

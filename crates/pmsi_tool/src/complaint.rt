@@ -1,6 +1,7 @@
 //! What is told on `err`.
 ghost use Rattle.std.specs.Prelude.{◌≡◌};
 
+use asm_parse::AsmCause;
 use image_file::ImageFault;
 use pmsi_model::NoMemory;
 
@@ -13,6 +14,10 @@ pub enum Refusal {
     NotBuilt,
     /// It is no image: the first check that fails.
     NoImage(ImageFault),
+    /// It isn't UTF-8.
+    NotText,
+    /// It is no source of an image: its first line that is wrong, from 1 on, and that line's first cause.
+    AtLine(u32, AsmCause),
 }
 
 /// An answer that is told on `err` by its line.

@@ -1,5 +1,5 @@
 //! The program's commands as one call: words, files and two sinks go in, and a status comes out. So far there are the
-//! commands `run`, `dis` and `image`, each with the name of a file.
+//! commands `run`, `asm`, `dis` and `image`, each with the name of a file.
 #![tactic(auto)]
 
 ghost use Rattle.std.specs.Prelude.{◌≡◌, ◌≢◌, ◌⊎◌, ℕ, List, map, string_bytes};

@@ -1,13 +1,15 @@
 //! Writing an answer: the result to `out`, or a line to `err`.
 ghost use Rattle.std.specs.Prelude.{◌≡◌, ◌≢◌, ◌⊎◌, ◌++◌, codes, IfOk, OnOk};
+ghost use Rattle.std.specs.Fmt.{signed_decimal};
 ghost use Rattle.std.specs.Io.KnownBytes.{Appends};
 ghost use Rattle.pmsi_outside.specs.Causes.{Rose};
 ghost use Rattle.pmsi_outside.specs.Sink.{AppendsPart};
-ghost use Rattle.pmsi_tool.specs.Lines.{detail_of, fault_text, line_of, refused_line, write_fault_line};
+ghost use Rattle.pmsi_tool.specs.Lines.{cause_text, detail_of, fault_text, line_of, refused_line, write_fault_line};
 ghost use Rattle.pmsi_tool.specs.Statuses.{IsTold, LeavesFront, Tells};
 
 use crate::ToolStatus;
 use crate::complaint::{Complaint, Refusal};
+use asm_parse::AsmCause;
 use image_file::ImageFault;
 use listing::{push_field, push_hex_field, push_text};
 use pmsi_outside::{Sink, write_whole};
@@ -75,6 +77,12 @@ fn push_detail(line: &mut Vec<u8>, refusal: Refusal) -> Result<(), AllocError>
         Refusal::Large => push_text(line, "large"),
         Refusal::NotBuilt => push_text(line, "not built"),
         Refusal::NoImage(fault) => push_fault(line, fault),
+        Refusal::NotText => push_text(line, "not text"),
+        Refusal::AtLine(number, cause) => {
+            push_field(line, "line ", number.into())?;
+            push_text(line, ": ")?;
+            push_cause(line, cause)
+        }
     }
 }
 
@@ -93,6 +101,31 @@ fn push_fault(line: &mut Vec<u8>, fault: ImageFault) -> Result<(), AllocError>
         ImageFault::Extra(place) => push_field(line, "extra ", place.into()),
         ImageFault::NoMemory => push_text(line, "no memory"),
     }
+}
+
+fn push_cause(line: &mut Vec<u8>, cause: AsmCause) -> Result<(), AllocError>
+    ensures { OnOk result (line.new.items ≡ line.old.items ++ cause_text cause) }
+{
+    match cause {
+        AsmCause::Character(column) => push_field(line, "character ", column.into()),
+        AsmCause::Word(column) => push_field(line, "word ", column.into()),
+        AsmCause::Operand(column) => push_field(line, "operand ", column.into()),
+        AsmCause::Number(column) => push_field(line, "number ", column.into()),
+        AsmCause::TextLong => push_text(line, "text long"),
+        AsmCause::Twice(column) => push_field(line, "twice ", column.into()),
+        AsmCause::Overlap(address) => push_hex_field(line, "overlap ", address),
+        AsmCause::Range(address) => push_hex_field(line, "range ", address),
+        AsmCause::Unknown(column) => push_field(line, "unknown ", column.into()),
+        AsmCause::Reach(distance) => push_distance(line, distance),
+    }
+}
+
+fn push_distance(line: &mut Vec<u8>, distance: i64) -> Result<(), AllocError>
+    ensures { OnOk result (line.new.items ≡ line.old.items ++ codes "reach " ++ signed_decimal distance) }
+{
+    push_text(line, "reach ")?;
+    let mut buffer = itoa::Buffer::new();
+    push_text(line, buffer.format(distance))
 }
 
 /// Writes a line to `err`, and answers this status, or a write fault.

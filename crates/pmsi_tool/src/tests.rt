@@ -4,6 +4,8 @@ use std::alloc::{AllocError, Global};
 use std::process::Abort;
 use std::test::Fail;
 
+mod asm;
+
 const HEADS: &str = "pmsi 1\ncores 1\nquantum 1\nline 4\nsets 1\nways 1\nmemory 64\nslots 4\n";
 
 const ADDS: &str = "core 0 hex 00700293 00000073\n";

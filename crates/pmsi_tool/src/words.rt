@@ -7,6 +7,8 @@ ghost use Rattle.pmsi_tool.specs.Words.{IsCommand, names_file, word_of};
 pub enum Command {
     /// Runs the job, and lists its end.
     Run,
+    /// Assembles the source, and writes its image.
+    Asm,
     /// Disassembles the image.
     Dis,
     /// Checks the image, and writes it.
@@ -37,6 +39,8 @@ fn command_named(word: &str) -> Option<Command>
 {
     if word == "run" {
         Some(Command::Run)
+    } else if word == "asm" {
+        Some(Command::Asm)
     } else if word == "dis" {
         Some(Command::Dis)
     } else if word == "image" {

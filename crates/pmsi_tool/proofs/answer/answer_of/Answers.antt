@@ -1,9 +1,7 @@
 use Rattle.std.proofs.Common.{map, string_bytes, Global, Vec, ℕ, rules}
-use Rattle.pmsi_tool.specs.declared.complaint.Complaint.{Complaint}
 use Rattle.pmsi_tool.specs.Words.{IsCommand}
-use Rattle.pmsi_tool.specs.Results.{Gives, IsResultOf, Reads, RefusesAt}
-use Rattle.pmsi_tool.specs.Statuses.{Stands}
-use Rattle.pmsi_tool.proofs.Causes.{if_ok, if_err, gives_from, stands_from_text}
+use Rattle.pmsi_tool.specs.Results.{Gives, IsResultOf, Reads}
+use Rattle.pmsi_tool.proofs.Causes.{if_ok, gives_from}
 use Rattle.pmsi_tool.proofs.answer.answer_of.Goals as goal
 
 pub returns-clause-text : goal.returns-clause-text
