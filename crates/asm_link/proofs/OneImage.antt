@@ -1,10 +1,12 @@
 -- A source has one image at most.
-use Rattle.std.proofs.Common.{◌≡◌, ℕ, List, [], ◌∷◌, None, refl, sym, ◌∙◌}
+use Rattle.std.proofs.Common.{◌≡◌, ◌≢◌, ℕ, List, [], ◌∷◌, None, refl, sym, ◌∙◌}
 use Rattle.std.specs.List.{AllZip}
 use Rattle.pmsi_model.specs.declared.image.Piece.{Piece}
 use Rattle.pmsi_model.specs.Image.{ImageValue}
 use Rattle.asm_parse.specs.Mnemonics.{Code, Instruction, Raw}
-use Rattle.asm_parse.specs.Assembly.{IsWordOf, asm_fault, text_of}
+use Rattle.asm_parse.specs.declared.fault.AsmFault.{AsmFault}
+use Rattle.asm_parse.specs.declared.fault.AsmFault.TheVariants.{At, NoMemory}
+use Rattle.asm_parse.specs.Assembly.{HasAsmFault, IsAssembled, IsWordOf, asm_fault, text_of}
 use Rattle.asm_link.specs.Laws.{AssemblesOnce, ImagesHaveNoFault}
 use Rattle.rv_decode.proofs.Rows.{encoding_back}
 use Rattle.asm_link.proofs.SamePieces.{same_pieces}
@@ -33,3 +35,8 @@ one_image source image other is other_is =
 
 pub no_fault : ImagesHaveNoFault
 no_fault source image fault is has = let none : asm_fault source ≡ None = is.faultless in cc
+
+-- where a source has an image, memory alone can be wanting
+pub only_memory : (source : List ℕ) (image : ImageValue) (fault : AsmFault) → IsAssembled source image → (fault ≢ NoMemory → HasAsmFault source fault) → fault ≡ NoMemory
+only_memory source image NoMemory is told = refl
+only_memory source image (At line cause) is told = absurd (no_fault source image (At line cause) is (told (λ e. cc)))

@@ -1,7 +1,9 @@
 -- Laws of sources and their images.
-use Rattle.std.specs.Prelude.{◌≡◌, ℕ, List}
+use Rattle.std.specs.Prelude.{◌≡◌, ℕ, List, Result, Ok, Err}
 use Rattle.pmsi_model.specs.Image.{ImageValue}
+use Rattle.pmsi_model.specs.declared.image.Image.{Image}
 use Rattle.asm_parse.specs.declared.fault.AsmFault.{AsmFault}
+use Rattle.asm_parse.specs.declared.fault.AsmFault.TheVariants.{NoMemory}
 use Rattle.asm_parse.specs.Assembly.{IsAssembled, HasAsmFault}
 
 -- a source has one image at most
@@ -11,3 +13,8 @@ AssemblesOnce = (source : List ℕ) (image other : ImageValue) → IsAssembled s
 -- and has no fault then
 abbrev pub ImagesHaveNoFault : Type 0
 ImagesHaveNoFault = (source : List ℕ) (image : ImageValue) (fault : AsmFault) → IsAssembled source image → HasAsmFault source fault → ⊥
+
+-- an answer is this image, or memory ran out
+abbrev pub GivesOnly : ImageValue → Result Image AsmFault → Type 0
+GivesOnly image (Ok other) = other ≡ image
+GivesOnly image (Err fault) = fault ≡ NoMemory

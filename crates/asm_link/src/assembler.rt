@@ -2,7 +2,9 @@
 
 ghost use Rattle.std.specs.Prelude.{◌≢◌, ◌≤◌, length, IfOk, IfErr};
 ghost use Rattle.pmsi_model.specs.declared.limits.TheConstants.{MAX_FILE_BYTES};
+ghost use Rattle.pmsi_model.specs.Image.{ImageValue};
 ghost use Rattle.asm_parse.specs.Assembly.{IsAssembled, HasAsmFault};
+ghost use Rattle.asm_link.specs.Laws.{GivesOnly};
 
 #[cfg(test)]
 mod tests;
@@ -19,6 +21,7 @@ pub fn assemble(alloc: Global, source: &str) -> Result<Image, AsmFault>
     requires { length source.now ≤ MAX_FILE_BYTES }
     ensures image { IfOk result (λ image. IsAssembled source.now image) }
     ensures fault { IfErr result (λ e. e ≢ AsmFault.NoMemory → HasAsmFault source.now e) }
+    ensures only { (image : ImageValue) → IsAssembled source.now image → GivesOnly image result }
 {
     let Layout {
         names,

@@ -38,7 +38,7 @@ pub(crate) fn fill(
     Ok(words)
 }
 
-/// Puts a line where it belongs.
+/// Puts a line's words behind the text, or its bytes into memory, unless it has a fault.
 fn add_step(
     step: &Step<'_>,
     names: &Names<'_>,

@@ -2,7 +2,7 @@
 
 use asm_parse::Statement;
 
-/// A line that puts something into text or data: its number, from 1 on, and the address where it begins in its space.
+/// A line with instructions or numbers: its number, from 1 on, and the address where it begins in its space.
 #[derive(Debug, Drop)]
 pub(crate) struct Step<'a> {
     pub(crate) number: u32,

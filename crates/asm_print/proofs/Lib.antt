@@ -10,3 +10,5 @@ pub mod Steps
 pub mod DataLines
 pub mod PieceRuns
 pub mod Sources
+pub mod Ascii
+pub mod Lengths

@@ -1,7 +1,8 @@
 //! Prints images.
 ghost use Rattle.std.specs.Prelude.{◌≡◌, ◌+◌, ◌*◌, ◌/◌, ◌<◌, ◌≤◌, ◌^◌, length, ◌++◌, codes, OnOk, IfOk};
 ghost use Rattle.std.specs.List.{flat_map};
-ghost use Rattle.pmsi_model.specs.declared.limits.TheConstants.{MAX_TEXT_WORDS};
+ghost use Rattle.std.specs.Str.{IsUtf8};
+ghost use Rattle.pmsi_model.specs.declared.limits.TheConstants.{MAX_TEXT_WORDS, MAX_FILE_BYTES};
 ghost use Rattle.pmsi_model.specs.Lines.{hex_word as word_digits};
 ghost use Rattle.pmsi_model.specs.Instruction.{instr_of};
 ghost use Rattle.asm_parse.specs.Assembly.{IsAssembled};
@@ -151,6 +152,8 @@ fn push_data(out: &mut Vec<u8>, pieces: &[Piece]) -> Result<(), AllocError>
 pub fn listing_of(alloc: Global, image: &Image) -> Result<Vec<u8>, NoMemory>
     ensures text { IfOk result (λ text. text.items ≡ listing_text image.now) }
     ensures assembles { IfOk result (λ text. IsAssembled text.items image.now) }
+    ensures within { IfOk result (λ text. length text.items ≤ MAX_FILE_BYTES) }
+    ensures utf8 { IfOk result (λ text. IsUtf8 text.items) }
 {
     let mut out = Vec::new(alloc);
     push_text(&mut out, ".text\n")?;

@@ -16,7 +16,7 @@ pub enum Refusal {
     NoImage(ImageFault),
     /// It isn't UTF-8.
     NotText,
-    /// It is no source of an image: its first line that is wrong, from 1 on, and that line's first cause.
+    /// It is no source of an image: the first fault of its two rounds, with its line, from 1 on.
     AtLine(u32, AsmCause),
 }
 

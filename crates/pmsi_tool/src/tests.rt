@@ -375,6 +375,7 @@ fn knows_its_words(rt: HostRuntime) -> Result<(), Fail> {
     is_usage(&rt, alloc, &["run", ""])?;
     is_usage(&rt, alloc, &["run", "-a.job"])?;
     is_usage(&rt, alloc, &["image", "-a.job"])?;
+    is_usage(&rt, alloc, &["asm"])?;
     is_usage(&rt, alloc, &["dis"])?;
     is_usage(&rt, alloc, &["runs", "a.job"])?;
     is_usage(&rt, alloc, &["run", "a.job", "a.job"])?;
@@ -440,16 +441,27 @@ fn statuses_have_their_numbers(rt: HostRuntime) {
     assert_eq!(rt; ToolStatus::NoMemory as u8, 6);
 }
 
+/// A command on these bytes writes an image of as many words as the limit.
+fn writes_the_most(
+    rt: &impl Abort,
+    alloc: Global,
+    command: &str,
+    bytes: Vec<u8>,
+) -> Result<(), AllocError> {
+    let mut files = SteadyFiles::new(listed(alloc, bytes)?);
+    let out = MemorySink::new(vec![in alloc; 0u8; 65_552]?, 4096, Vec::new(alloc));
+    let err = sink(alloc, 1024, Vec::new(alloc))?;
+    let ran = call(alloc, &[command, "a.job"], &mut files, out, err)?;
+    assert_eq!(rt; ran.status, ToolStatus::Done);
+    assert_eq!(rt; ran.out.bytes().len(), 65_552);
+    Ok(())
+}
+
 #[test]
 fn takes_as_many_words_as_the_limit(rt: HostRuntime) -> Result<(), Fail> {
     let alloc = rt.alloc();
     let mut bytes = vec![in alloc; 0u8; 65_552]?;
     bytes[..16].copy_from_slice(b"PMSIIMG1\0\x40\0\0\0\0\0\0");
-    let mut files = SteadyFiles::new(listed(alloc, bytes)?);
-    let out = MemorySink::new(vec![in alloc; 0u8; 65_552]?, 4096, Vec::new(alloc));
-    let err = sink(alloc, 1024, Vec::new(alloc))?;
-    let ran = call(alloc, &["image", "a.job"], &mut files, out, err)?;
-    assert_eq!(rt; ran.status, ToolStatus::Done);
-    assert_eq!(rt; ran.out.bytes().len(), 65_552);
+    writes_the_most(&rt, alloc, "image", bytes)?;
     Ok(())
 }

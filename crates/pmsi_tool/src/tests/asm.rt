@@ -130,6 +130,14 @@ fn finds_faults(rt: HostRuntime) -> Result<(), Fail> {
     Ok(())
 }
 
+#[test]
+fn assembles_as_many_words_as_the_limit(rt: HostRuntime) -> Result<(), Fail> {
+    let alloc = rt.alloc();
+    let bytes = full(alloc, "a:")?.into_bytes();
+    writes_the_most(&rt, alloc, "asm", bytes)?;
+    Ok(())
+}
+
 /// That a text is too long comes behind what else is wrong with its line, but before the second round.
 #[test]
 fn finds_long_texts(rt: HostRuntime) -> Result<(), Fail> {

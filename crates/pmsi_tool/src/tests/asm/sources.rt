@@ -1,4 +1,4 @@
-//! Sources, and what each comes to. The words are those of the RISC-V standard.
+//! Sources, and what each comes to. Words of instructions are as the RISC-V standard encodes them.
 
 /// A source, and the words of its text.
 pub(super) type Text = (&'static str, &'static [u32]);
@@ -6,6 +6,7 @@ pub(super) type Text = (&'static str, &'static [u32]);
 /// Constants and addresses in registers.
 pub(super) const CONSTANTS: &[Text] = &[
     ("li x5, 2047", &[0x7ff0_0293]),
+    ("li x5, 000000000000000000002047", &[0x7ff0_0293]),
     ("li x5, 2048", &[0x0000_12b7, 0x8002_8293]),
     ("li x5, 4096", &[0x0000_12b7]),
     ("li x5, 0x12345678", &[0x1234_52b7, 0x6782_8293]),
@@ -65,7 +66,7 @@ pub(super) const JUMPS: &[Text] = &[
     ("a: bleu x5, x6, a", &[0x0053_7063]),
 ];
 
-/// What registers hold.
+/// Operations on registers, with immediates and without.
 pub(super) const OPERATIONS: &[Text] = &[
     ("addi x5, x6, -2048", &[0x8003_0293]),
     ("slti x5, x6, 2047", &[0x7ff3_2293]),
@@ -228,9 +229,25 @@ pub(super) const DATA: &[(&str, &[u32], &[Piece])] = &[
         &[(0, &[0x00, 0x01, 0x01])],
     ),
     (
+        ".data\na: .org 8\n.byte a, b\nb:",
+        &[],
+        &[(8, &[0x00, 0x0a])],
+    ),
+    ("nop\na: .data\n.byte a", &[0x0000_0013], &[(0, &[0x04])]),
+    (
         ".data\n.zero 3\n.zero 0\n.byte 1",
         &[],
         &[(0, &[0x00, 0x00, 0x00, 0x01])],
+    ),
+    (
+        ".data\n.byte 1\n.balign 2\n.byte 2\n.balign 16\n.byte 3\n.balign 32\n.byte 4",
+        &[],
+        &[(0, &[0x01]), (2, &[0x02]), (16, &[0x03]), (32, &[0x04])],
+    ),
+    (
+        ".data\n.byte 1\nc: .balign 8\nd: .byte c, d",
+        &[],
+        &[(0, &[0x01]), (8, &[0x01, 0x08])],
     ),
     (".data\n.org 1048575\n.byte 255", &[], &[(0xfffff, &[0xff])]),
     (".data\n.org 1048576\n.zero 0", &[], &[]),
@@ -249,7 +266,7 @@ pub(super) const DATA: &[(&str, &[u32], &[Piece])] = &[
 /// A source, and what is told of it.
 pub(super) type Fault = (&'static str, &'static str);
 
-/// Lines that don't have the form of one.
+/// Lines that have no form.
 pub(super) const FORMS: &[Fault] = &[
     // bytes that begin no token
     ("nop $", "line 1: character 5"),
@@ -274,6 +291,15 @@ pub(super) const FORMS: &[Fault] = &[
     ("fence rwo, w", "line 1: operand 7"),
     ("fence w", "line 1: operand 8"),
     ("li x5, a\n.equ a, 3", "line 1: operand 8"),
+    ("a: li x5, a", "line 1: operand 11"),
+    ("la x5, %hi(4)", "line 1: operand 8"),
+    ("li x5, %lo(4)", "line 1: operand 8"),
+    ("j %lo(4)", "line 1: operand 3"),
+    ("lui x5, %hi(%lo(4))", "line 1: operand 13"),
+    ("amoadd.w x5, x6, -0(x7)", "line 1: operand 18"),
+    ("amoadd.w x5, x6, 0x0(x7)", "line 1: operand 18"),
+    ("nop\rnop", "line 1: character 4"),
+    ("j\r\nnop", "line 1: operand 2"),
     // words of the other space
     ("  .byte x y", "line 1: operand 3"),
     (".org 0", "line 1: operand 1"),
@@ -314,6 +340,27 @@ pub(super) const VALUES: &[Fault] = &[
     (".data\n.zero -1", "line 2: number 7"),
     ("nop\na: .word a + 4294967295", "line 2: number 10"),
     ("la x5, a + 4294967295\na:", "line 1: number 8"),
+    ("j 4294967296", "line 1: number 3"),
+    ("jal x1, 12ab", "line 1: number 9"),
+    ("addi x5, x0, 0x", "line 1: number 14"),
+    ("li x5, 1.0", "line 1: number 8"),
+    ("li x5, 5x", "line 1: number 8"),
+    (".data\n.balign 0", "line 2: number 9"),
+    (".data\n.balign 128", "line 2: number 9"),
+    (".data\n.org -1", "line 2: number 6"),
+    (".data\n.org 4294967296", "line 2: number 6"),
+    // numbers by their names
+    ("addi x5, x0, a\n.equ a, 2048", "line 1: number 14"),
+    ("sw x5, a(x6)\n.equ a, 3000", "line 1: number 8"),
+    ("slli x5, x5, a\n.equ a, 32", "line 1: number 14"),
+    ("lui x5, a\n.equ a, -1", "line 1: number 9"),
+    (
+        ".equ a, 0x12345678\naddi x5, x0, %hi(a)",
+        "line 2: number 14",
+    ),
+    (".data\n.byte a\n.equ a, 256", "line 2: number 7"),
+    (".data\n.half a\n.equ a, -32769", "line 2: number 7"),
+    (".equ a, 1\nli x5, a + 12ab", "line 2: number 8"),
     // names that are defined twice
     ("a: nop\na: nop", "line 2: twice 1"),
     ("a: a: nop", "line 1: twice 4"),
@@ -343,11 +390,13 @@ pub(super) const VALUES: &[Fault] = &[
     ("j 4294967295", "line 1: reach 4294967295"),
     ("beq x0, x0, 4096", "line 1: reach 4096"),
     ("a: nop\nbne x0, x0, a - 4094", "line 2: reach -4098"),
+    ("beq x0, x0, 3", "line 1: reach 3"),
+    ("a: j a + 1", "line 1: reach 1"),
 ];
 
-/// Of several causes the first counts.
+/// Of several causes the first is told.
 pub(super) const ORDER: &[Fault] = &[
-    // of two causes on a line the first counts: a byte comes before all others
+    // a byte before all others
     ("bad $", "line 1: character 5"),
     ("add x5 $", "line 1: character 8"),
     ("addi x5, x0, 2048 $", "line 1: character 19"),
@@ -390,8 +439,19 @@ pub(super) const ORDER: &[Fault] = &[
     ("a: .word a + 4294967295, b", "line 1: unknown 26"),
     ("j b + 12ab", "line 1: unknown 3"),
     ("a: j a + 12ab", "line 1: number 6"),
-    // of two lines the first counts, and of two rounds
+    ("a: .word a + 4294967295 $", "line 1: character 25"),
+    ("a: .word a + 4294967295 5", "line 1: operand 25"),
+    ("a: .word a + 4294967295, 4294967296", "line 1: number 26"),
+    ("a: a: .word a + 4294967295", "line 1: twice 4"),
+    // the first round before the second, and then the first line
     ("j nowhere\nbad", "line 2: word 1"),
     ("j nowhere\na: a: nop", "line 2: twice 4"),
     ("j 3\nj nowhere", "line 1: reach 3"),
+    // an earlier line before an earlier cause
+    ("addi x5, x0, 2048\nnop $", "line 1: number 14"),
+    ("a: nop\na: nop\nbad", "line 2: twice 1"),
+    // the wrong space before what its operands are, and behind a byte
+    (".data\nnop $", "line 2: character 5"),
+    (".data\naddi x5, x0, 2048", "line 2: operand 1"),
+    ("a: a: .org 0", "line 1: operand 7"),
 ];
