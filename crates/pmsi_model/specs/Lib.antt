@@ -18,3 +18,5 @@ pub mod Examples
 pub mod ExampleWords
 pub mod Lines
 pub mod Listing
+pub mod Shared
+pub mod Parts

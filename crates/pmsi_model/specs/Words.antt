@@ -6,7 +6,7 @@ use Rattle.std.specs.Int.{w32, cast_signed, cast_unsigned}
 abbrev pub wrapped : ℕ → ℕ
 wrapped n = n % 2 ^ 32
 
--- a signed number as a word, in two's complement
+-- a signed number as a word, in two's complement: it means a number from -2^32 to 2^32 - 1
 abbrev pub word_of : ℤ → ℕ
 word_of n = cast_unsigned w32 n
 

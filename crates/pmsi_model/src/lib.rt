@@ -4,6 +4,7 @@
 
 ghost use Rattle.std.specs.Prelude.{◌≡◌};
 ghost use Rattle.pmsi_model.specs.Access.{kind_of, width_of};
+ghost use Rattle.pmsi_model.specs.Bus.{kind_of_name};
 
 pub mod examples;
 mod image;
@@ -12,11 +13,13 @@ mod job;
 pub mod laws;
 pub mod limits;
 mod lists;
+mod port;
 
 pub use image::{Image, Piece};
 pub use instr::{AmoOp, BranchOp, ImmOp, Instr, LoadOp, Reg, RegOp, StoreOp};
 pub use job::{Geometry, Job};
 pub use lists::{Bytes, Pieces, Sequence, Utf8Text, WordLists, Words};
+pub use port::BusPort;
 use std::alloc::{AllocError, AllocFailed};
 
 /// What a request asks for: a copy to read, or the only copy, to write. An AMO is a write.
@@ -39,6 +42,18 @@ pub enum Name {
     GetS,
     GetM,
     Upg,
+}
+
+impl Name {
+    /// What a request of this name asks for.
+    pub fn kind(self) -> Kind
+        ensures { result ≡ kind_of_name self }
+    {
+        match self {
+            Name::GetS => Kind::Read,
+            Name::GetM | Name::Upg => Kind::Write,
+        }
+    }
 }
 
 /// Which of its two duties a core does first in its next own slot, where both are possible.
