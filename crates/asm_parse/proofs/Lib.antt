@@ -5,7 +5,6 @@ pub mod LineCuts
 pub mod Shorter
 pub mod Spans
 pub mod Worked
-pub mod Rows
 pub mod Taken
 pub mod Multiples
 pub mod Misreads

@@ -2,7 +2,6 @@
 use Rattle.std.proofs.Common.{arith, ◌≡◌, ℕ, false, List, [], ◌∷◌, ◌++◌, Option, Some, None, refl, sym}
 use Rattle.std.specs.Option.{option_map, option_or}
 use Rattle.std.specs.Str.{bytes_eq}
-use Rattle.std.proofs.lemmas.List.Folds.{find-append}
 use Rattle.std.proofs.lemmas.Slice.Eq.{bytes_eq-Decides}
 use Rattle.pmsi_model.specs.declared.instr.ImmOp.{ImmOp}
 use Rattle.asm_parse.specs.declared.mnemonic.Mnemonic.{Mnemonic}
@@ -11,13 +10,7 @@ use Rattle.asm_parse.specs.declared.mnemonic.Operation.TheVariants.{Imm}
 use Rattle.asm_parse.specs.Numbers.{value_in}
 use Rattle.asm_parse.specs.Mnemonics.{Form, rows, imm_ops, shift_ops, imm_rows}
 use Rattle.asm_parse.specs.Forms.{forms_of}
-
-either_mapped : {A B : Type 0} (f : A → B) (a b : Option A) → option_map f (option_or a b) ≡ option_or (option_map f a) (option_map f b)
-either_mapped f None b = refl
-either_mapped f (Some a) b = refl
-
-value_in_append : {A : Type 0} (xs ys : List (List ℕ × A)) (text : List ℕ) → value_in (xs ++ ys) text ≡ option_or (value_in xs text) (value_in ys text)
-value_in_append xs ys text = rw (find-append (λ row. bytes_eq row.0 text) xs ys) (either_mapped (λ row. row.1) _ _)
+use Rattle.asm_parse.proofs.Tables.{either_mapped, value_in_append}
 
 pub not_named : (key text : List ℕ) → (key ≡ text → ⊥) → bytes_eq key text ≡ false
 not_named key text apart = grind (arith, bytes_eq-Decides key text)

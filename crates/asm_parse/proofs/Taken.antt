@@ -5,17 +5,10 @@ use Rattle.std.specs.Borrow.{Bor}
 use Rattle.asm_parse.specs.declared.lexeme.Lexeme as code
 use Rattle.asm_parse.specs.declared.expr.Expr as code_expr
 use Rattle.asm_parse.specs.declared.item.Width.{Width}
-use Rattle.asm_parse.specs.Operands.{Lexeme, Taken, take_exprs, ends}
+use Rattle.asm_parse.specs.Operands.{Lexeme, Taken, take_exprs}
 use Rattle.asm_parse.specs.Assembly.{number_item, read_items, read_numbers}
 use Rattle.asm_parse.specs.Items.{bytes_in, fits_in, number_of}
 use Rattle.asm_parse.specs.Meanings.{expr, took}
-
--- what a line's end leaves may be seen as something else
-pub seen_at_end : {A B : Type 0} (f : A → B) (a : A) (r : Result (A × Bor (List code.Lexeme)) (Bor (List code.Lexeme))) (xs : List Lexeme) → took (λ t. t) r ≡ ends a xs → took f r ≡ ends (f a) xs
-seen_at_end f a (Ok found) [] is = grind arith
-seen_at_end f a (Ok found) (x ∷ xs) is = grind arith
-seen_at_end f a (Err left) [] is = grind arith
-seen_at_end f a (Err left) (x ∷ xs) is = grind arith
 
 -- the numbers of a line of data, by those that were taken
 pub numbers_read : (width : Width) (numbers : List code_expr.Expr) (xs left : List Lexeme) → take_exprs xs ≡ Taken (map expr numbers) left → read_numbers (bytes_in width) (fits_in width) xs ≡ read_items (bytes_in width) (Taken (map (number_of width) numbers) left)

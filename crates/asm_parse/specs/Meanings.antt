@@ -1,5 +1,5 @@
 -- What the types of the code stand for: texts that are lent stand for their bytes.
-use Rattle.std.specs.Prelude.{List, map, Result, Ok, Err}
+use Rattle.std.specs.Prelude.{List, [], map, Result, Ok, Err}
 use Rattle.std.specs.Option.{option_map}
 use Rattle.std.specs.Borrow.{Bor}
 use Rattle.asm_parse.specs.declared.lexeme.Lexeme as written
@@ -25,6 +25,11 @@ imm i = record { part = i.part; expr = expr i.expr; column = i.column }
 abbrev pub took : {A B : Type 0} → (A → B) → Result (A × Bor (List written.Lexeme)) (Bor (List written.Lexeme)) → Took B
 took f (Ok found) = Taken (f found.0) (lexemes found.1.now)
 took f (Err left) = Stuck (lexemes left.now)
+
+-- what all the tokens came to, as the definitions say it
+abbrev pub whole : {A B : Type 0} → (A → B) → Result A (Bor (List written.Lexeme)) → Took B
+whole f (Ok found) = Taken (f found) []
+whole f (Err left) = Stuck (lexemes left.now)
 
 -- a claim on the tokens that were left, where memory didn't run out
 abbrev pub StopsAt : stop.Stop → (List Lexeme → Type 0) → Type 0

@@ -290,15 +290,19 @@ pseudo_operation_rows =
     ∷ (codes "sgtz", form_rr (λ rd rs. ready (Op Slt rd 0 rs)) ∷ [])
     ∷ []
 
-abbrev pub pseudo_branch_rows : List (List ℕ × List Form)
-pseudo_branch_rows =
+abbrev pub branch_zero_rows : List (List ℕ × List Form)
+branch_zero_rows =
     (codes "beqz", form_re (λ rs target. branch_to Beq rs 0 target ∷ []) ∷ [])
     ∷ (codes "bnez", form_re (λ rs target. branch_to Bne rs 0 target ∷ []) ∷ [])
     ∷ (codes "blez", form_re (λ rs target. branch_to Bge 0 rs target ∷ []) ∷ [])
     ∷ (codes "bgez", form_re (λ rs target. branch_to Bge rs 0 target ∷ []) ∷ [])
     ∷ (codes "bltz", form_re (λ rs target. branch_to Blt rs 0 target ∷ []) ∷ [])
     ∷ (codes "bgtz", form_re (λ rs target. branch_to Blt 0 rs target ∷ []) ∷ [])
-    ∷ (codes "bgt", form_rre (λ a b target. branch_to Blt b a target ∷ []) ∷ [])
+    ∷ []
+
+abbrev pub swapped_branch_rows : List (List ℕ × List Form)
+swapped_branch_rows =
+    (codes "bgt", form_rre (λ a b target. branch_to Blt b a target ∷ []) ∷ [])
     ∷ (codes "ble", form_rre (λ a b target. branch_to Bge b a target ∷ []) ∷ [])
     ∷ (codes "bgtu", form_rre (λ a b target. branch_to Bltu b a target ∷ []) ∷ [])
     ∷ (codes "bleu", form_rre (λ a b target. branch_to Bgeu b a target ∷ []) ∷ [])
@@ -318,7 +322,7 @@ pseudo_jump_and_load_rows =
 unfoldable pub mnemonics : List (List ℕ × List Form)
 mnemonics =
     upper_and_jump_rows ++ branch_rows ++ load_and_store_rows ++ imm_rows ++ reg_rows ++ amo_rows
-    ++ fence_and_system_rows ++ pseudo_operation_rows ++ pseudo_branch_rows ++ pseudo_jump_and_load_rows
+    ++ fence_and_system_rows ++ pseudo_operation_rows ++ branch_zero_rows ++ swapped_branch_rows ++ pseudo_jump_and_load_rows
 
 -- the forms of a mnemonic, if there is one of this name
 unfoldable pub forms_named : List ℕ → Option (List Form)

@@ -1,5 +1,5 @@
 -- Numbers, registers and fence operands as they are spelt.
-use Rattle.std.specs.Prelude.{ℕ, ◌+◌, ◌-◌, ◌*◌, ◌^◌, ℤ, pos, neg_ℤ, int_lt, Bool, not, ◌&&◌, ◌==◌, nat_le, nat_lt, if◌then◌else◌, List, [], ◌∷◌, take, drop, codes, Option, Some, None}
+use Rattle.std.specs.Prelude.{ℕ, ◌+◌, ◌-◌, ◌*◌, ◌^◌, ℤ, pos, neg_ℤ, int_lt, Bool, not, ◌&&◌, ◌==◌, nat_le, nat_lt, if◌then◌else◌, List, [], ◌∷◌, ◌++◌, take, drop, codes, Option, Some, None}
 use Rattle.std.specs.List.{find}
 use Rattle.std.specs.Str.{bytes_eq}
 use Rattle.std.specs.Option.{option_map}
@@ -52,18 +52,54 @@ signed_number negative (Some n) = if_number (if negative then neg_ℤ (pos n) el
 abbrev pub value_in : {A : Type 0} → List (List ℕ × A) → List ℕ → Option A
 value_in rows text = option_map (λ row. row.1) (find (λ row. bytes_eq row.0 text) rows)
 
--- the registers by their names, and by those of the standard's calling convention
-abbrev pub registers : List (List ℕ × ℕ)
-registers =
+-- the registers by their numbers, and by their names of the standard's calling convention
+abbrev pub one_digit_registers : List (List ℕ × ℕ)
+one_digit_registers =
     (codes "x0", 0) ∷ (codes "x1", 1) ∷ (codes "x2", 2) ∷ (codes "x3", 3) ∷ (codes "x4", 4) ∷ (codes "x5", 5) ∷ (codes "x6", 6) ∷ (codes "x7", 7)
-    ∷ (codes "x8", 8) ∷ (codes "x9", 9) ∷ (codes "x10", 10) ∷ (codes "x11", 11) ∷ (codes "x12", 12) ∷ (codes "x13", 13) ∷ (codes "x14", 14) ∷ (codes "x15", 15)
-    ∷ (codes "x16", 16) ∷ (codes "x17", 17) ∷ (codes "x18", 18) ∷ (codes "x19", 19) ∷ (codes "x20", 20) ∷ (codes "x21", 21) ∷ (codes "x22", 22) ∷ (codes "x23", 23)
-    ∷ (codes "x24", 24) ∷ (codes "x25", 25) ∷ (codes "x26", 26) ∷ (codes "x27", 27) ∷ (codes "x28", 28) ∷ (codes "x29", 29) ∷ (codes "x30", 30) ∷ (codes "x31", 31)
-    ∷ (codes "zero", 0) ∷ (codes "ra", 1) ∷ (codes "sp", 2) ∷ (codes "gp", 3) ∷ (codes "tp", 4) ∷ (codes "t0", 5) ∷ (codes "t1", 6) ∷ (codes "t2", 7)
-    ∷ (codes "s0", 8) ∷ (codes "fp", 8) ∷ (codes "s1", 9) ∷ (codes "a0", 10) ∷ (codes "a1", 11) ∷ (codes "a2", 12) ∷ (codes "a3", 13) ∷ (codes "a4", 14)
-    ∷ (codes "a5", 15) ∷ (codes "a6", 16) ∷ (codes "a7", 17) ∷ (codes "s2", 18) ∷ (codes "s3", 19) ∷ (codes "s4", 20) ∷ (codes "s5", 21) ∷ (codes "s6", 22)
-    ∷ (codes "s7", 23) ∷ (codes "s8", 24) ∷ (codes "s9", 25) ∷ (codes "s10", 26) ∷ (codes "s11", 27) ∷ (codes "t3", 28) ∷ (codes "t4", 29) ∷ (codes "t5", 30) ∷ (codes "t6", 31)
+    ∷ (codes "x8", 8) ∷ (codes "x9", 9)
     ∷ []
+
+abbrev pub registers_below_20 : List (List ℕ × ℕ)
+registers_below_20 =
+    (codes "x10", 10) ∷ (codes "x11", 11) ∷ (codes "x12", 12) ∷ (codes "x13", 13) ∷ (codes "x14", 14) ∷ (codes "x15", 15) ∷ (codes "x16", 16) ∷ (codes "x17", 17)
+    ∷ (codes "x18", 18) ∷ (codes "x19", 19)
+    ∷ []
+
+abbrev pub registers_from_20 : List (List ℕ × ℕ)
+registers_from_20 =
+    (codes "x20", 20) ∷ (codes "x21", 21) ∷ (codes "x22", 22) ∷ (codes "x23", 23) ∷ (codes "x24", 24) ∷ (codes "x25", 25) ∷ (codes "x26", 26) ∷ (codes "x27", 27)
+    ∷ (codes "x28", 28) ∷ (codes "x29", 29) ∷ (codes "x30", 30) ∷ (codes "x31", 31)
+    ∷ []
+
+abbrev pub numbered_registers : List (List ℕ × ℕ)
+numbered_registers = one_digit_registers ++ registers_below_20 ++ registers_from_20
+
+abbrev pub pointer_registers : List (List ℕ × ℕ)
+pointer_registers =
+    (codes "zero", 0) ∷ (codes "ra", 1) ∷ (codes "sp", 2) ∷ (codes "gp", 3) ∷ (codes "tp", 4) ∷ (codes "fp", 8)
+    ∷ []
+
+abbrev pub temporary_registers : List (List ℕ × ℕ)
+temporary_registers =
+    (codes "t0", 5) ∷ (codes "t1", 6) ∷ (codes "t2", 7) ∷ (codes "t3", 28) ∷ (codes "t4", 29) ∷ (codes "t5", 30) ∷ (codes "t6", 31)
+    ∷ []
+
+abbrev pub saved_registers : List (List ℕ × ℕ)
+saved_registers =
+    (codes "s0", 8) ∷ (codes "s1", 9) ∷ (codes "s2", 18) ∷ (codes "s3", 19) ∷ (codes "s4", 20) ∷ (codes "s5", 21) ∷ (codes "s6", 22) ∷ (codes "s7", 23)
+    ∷ (codes "s8", 24) ∷ (codes "s9", 25) ∷ (codes "s10", 26) ∷ (codes "s11", 27)
+    ∷ []
+
+abbrev pub argument_registers : List (List ℕ × ℕ)
+argument_registers =
+    (codes "a0", 10) ∷ (codes "a1", 11) ∷ (codes "a2", 12) ∷ (codes "a3", 13) ∷ (codes "a4", 14) ∷ (codes "a5", 15) ∷ (codes "a6", 16) ∷ (codes "a7", 17)
+    ∷ []
+
+abbrev pub conventional_registers : List (List ℕ × ℕ)
+conventional_registers = pointer_registers ++ temporary_registers ++ saved_registers ++ argument_registers
+
+abbrev pub registers : List (List ℕ × ℕ)
+registers = numbered_registers ++ conventional_registers
 
 unfoldable pub register_named : List ℕ → Option ℕ
 register_named text = value_in registers text

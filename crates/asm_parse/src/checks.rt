@@ -42,6 +42,7 @@ pub(crate) fn check_numbers(width: Width, numbers: &[Expr<'_>]) -> Checked<()>
     Ok(())
 }
 
+/// One instruction.
 fn check_item(item: &Item<'_>) -> Checked<()>
     ensures { result_err result ≡ wrong_item (item_of item.now) }
 {
@@ -53,6 +54,7 @@ fn check_item(item: &Item<'_>) -> Checked<()>
     }
 }
 
+/// An immediate of an instruction, which blames its own column where it is out of range.
 fn check_imm(instr: Instr, imm: &Imm<'_>) -> Checked<()>
     ensures { result_err result ≡ wrong_item (item_of (item.Immediate instr imm.now)) }
 {
@@ -62,6 +64,7 @@ fn check_imm(instr: Instr, imm: &Imm<'_>) -> Checked<()>
     }
 }
 
+/// A number of so many bytes.
 fn check_number(width: Width, expr: &Expr<'_>) -> Checked<()>
     ensures { result_err result ≡ wrong_item (number_of width expr.now) }
 {
@@ -71,7 +74,7 @@ fn check_number(width: Width, expr: &Expr<'_>) -> Checked<()>
     }
 }
 
-/// The number of an expression without a name.
+/// The number of an expression, unless it has a name, which is given its value later.
 fn own_number(expr: &Expr<'_>) -> Checked<Option<Number>>
     ensures { (at : ℕ) → (fits : ℤ → Bool) → wrong_expr expr.now at fits ≡ wrong_by result at fits }
 {
@@ -82,7 +85,7 @@ fn own_number(expr: &Expr<'_>) -> Checked<Option<Number>>
     }
 }
 
-/// A number of bytes, or an address.
+/// A number of bytes, or an address: from 0 to 2^32 - 1.
 pub(crate) fn check_size(n: Literal) -> Checked<u32>
     ensures { IsChecked pos n is_size result }
 {
@@ -92,7 +95,7 @@ pub(crate) fn check_size(n: Literal) -> Checked<u32>
     }
 }
 
-/// A power of two that data can be aligned to.
+/// What data can be aligned to: a power of two, at most 64.
 pub(crate) fn check_alignment(n: Literal) -> Checked<u32>
     ensures checked { IsChecked pos n is_alignment result }
     ensures within { IfOk result (λ to. (0 < to) × (to ≤ 64)) }

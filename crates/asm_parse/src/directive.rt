@@ -6,23 +6,23 @@ ghost use Rattle.asm_parse.specs.declared.token.TokenKind.TheVariants.{Word};
 ghost use Rattle.asm_parse.specs.Operands.{then_take, take_kind, take_literal, ends};
 ghost use Rattle.asm_parse.specs.Items.{IsSound, bytes_in, fits_in};
 ghost use Rattle.asm_parse.specs.Assembly.{Nothing, Switch, MoveTo, Zeros, Asks, aligned, directive_named, is_size, is_alignment, read_definition, read_numbers, take_definition};
-ghost use Rattle.asm_parse.specs.Meanings.{lexeme, lexemes, took};
+ghost use Rattle.asm_parse.specs.Meanings.{lexeme, lexemes, whole};
 ghost use Rattle.asm_parse.specs.Readings.{directive_meaning, IsNumberRead, IsPlainRead, IsRead};
 
 use crate::checks::{check_alignment, check_numbers, check_size, check_value};
 use crate::expr::Literal;
 use crate::item::Width;
-use crate::lexeme::{Lexeme, Stop, Took, taken};
+use crate::lexeme::{Lexeme, Stop, Whole, taken, whole};
 use crate::lists::take_exprs;
 use crate::misread::Misread;
-use crate::operands::{ends, take_kind, take_literal};
+use crate::operands::{take_kind, take_literal};
 use crate::place::Place;
 use crate::statement::Statement;
 use crate::token::TokenKind;
 use std::alloc::Global;
 
 /// A directive, or several that ask for the same.
-#[derive(Clone, Copy, Debug, PartialEq, Eq)]
+#[derive(Clone, Copy)]
 pub(crate) enum Directive {
     /// `.text` or `.data`.
     Switch { to_data: bool },
@@ -106,18 +106,18 @@ pub(crate) fn read_directive<'a>(
 }
 
 /// One number, up to the line's end.
-fn take_number<'x, 'a>(xs: &'x [Lexeme<'a>]) -> Took<'x, 'a, Literal>
-    ensures { took (λ n. n) result ≡ then_take (take_literal (lexemes xs.now)) ends }
+fn take_number<'x, 'a>(xs: &'x [Lexeme<'a>]) -> Whole<'x, 'a, Literal>
+    ensures { whole (λ n. n) result ≡ then_take (take_literal (lexemes xs.now)) ends }
 {
     let (n, xs) = taken!(take_literal(xs));
-    ends(n, xs)
+    whole!(n, xs)
 }
 
 /// A number of bytes, or an address.
 fn read_size(xs: &[Lexeme<'_>]) -> Result<u32, Misread>
     ensures { IsNumberRead result is_size (lexemes xs.now) }
 {
-    let (n, _) = taken!(take_number(xs));
+    let n = taken!(take_number(xs));
     check_size(n).map_err(Misread::Number)
 }
 
@@ -126,7 +126,7 @@ fn read_alignment(xs: &[Lexeme<'_>]) -> Result<u32, Misread>
     ensures number { IsNumberRead result is_alignment (lexemes xs.now) }
     ensures within { IfOk result (λ n. (0 < n) × (n ≤ 64)) }
 {
-    let (n, _) = taken!(take_number(xs));
+    let n = taken!(take_number(xs));
     check_alignment(n).map_err(Misread::Number)
 }
 
@@ -141,13 +141,13 @@ fn aligned(address: u32, to: u32) -> u32
 }
 
 /// A name and its value.
-fn take_definition<'x, 'a>(xs: &'x [Lexeme<'a>]) -> Took<'x, 'a, (Lexeme<'a>, Literal)>
-    ensures { took (λ d. (lexeme d.0, d.1)) result ≡ take_definition (lexemes xs.now) }
+fn take_definition<'x, 'a>(xs: &'x [Lexeme<'a>]) -> Whole<'x, 'a, (Lexeme<'a>, Literal)>
+    ensures { whole (λ d. (lexeme d.0, d.1)) result ≡ take_definition (lexemes xs.now) }
 {
     let (name, xs) = take_kind(TokenKind::Word, xs)?;
     let (_, xs) = take_kind(TokenKind::Comma, xs)?;
     let (n, xs) = taken!(take_literal(xs));
-    ends((name, n), xs)
+    whole!((name, n), xs)
 }
 
 /// The definition of a name.
@@ -155,14 +155,14 @@ fn read_definition<'a>(xs: &[Lexeme<'a>]) -> Result<Statement<'a>, Misread>
     ensures read { IsRead result (Asks (read_definition (take_definition (lexemes xs.now)))) }
     ensures sound { IfOk result (λ does. (in_data : Bool) → IsSound in_data does) }
 {
-    let ((name, n), _) = taken!(take_definition(xs));
+    let (name, n) = taken!(take_definition(xs));
     match check_value(n) {
         Ok(value) => Ok(Statement::Define(name, value)),
         Err(column) => Err(Misread::Number(column)),
     }
 }
 
-/// A name, which is of no use here.
+/// A name, which no other source asks for: it has no effect.
 #[tactic(auto, unfolding(crate::specs::Operands::take_kind))]
 fn read_global(xs: &[Lexeme<'_>]) -> Result<(), Misread>
     ensures { IsPlainRead result Nothing (then_take (take_kind Word (lexemes xs.now)) (λ _ xs. ends Nothing xs)) }

@@ -2,7 +2,8 @@
 
 use crate::number::Number;
 
-/// A number with its sign: none where it is misspelt or out of range. The column is that of its first token, from 1 on.
+/// A number with its sign: none where it is misspelt or isn't from -2^31 to 2^32 - 1. The column is that of the sign or
+/// else of the digits, from 1 on.
 #[derive(Clone, Copy, Debug, PartialEq, Eq)]
 pub struct Literal {
     pub value: Option<Number>,
@@ -18,11 +19,12 @@ pub struct Expr<'a> {
     pub column: u32,
 }
 
-/// Which part of a number an immediate is.
+/// What an immediate is of a number: the number itself, or a part of what is left of it in 32 bits. That is again
+/// 4096 times the high part with the low one added, in 32 bits.
 #[derive(Clone, Copy, Debug, PartialEq, Eq)]
 pub enum Part {
     Whole,
-    /// `%hi`: the high twenty bits.
+    /// `%hi`: the high twenty bits, one more where the low part is below 0.
     High,
     /// `%lo`: the low twelve bits, as a signed number.
     Low,

@@ -67,7 +67,8 @@ pub enum AsmCause {
     Reach(i64),
 }
 
-/// Why a source gives no image: the first line that is wrong, from 1 on, and its first cause.
+/// Why a source gives no image: the first fault of the first round over its lines, which reads them and defines names, or
+/// where that has none, of the second round, which gives names their values. Lines are counted from 1.
 #[derive(Clone, Copy, Debug, PartialEq, Eq, Error)]
 pub enum AsmFault {
     #[error("line {0}: {1}")]

@@ -4,7 +4,7 @@ ghost use Rattle.std.specs.Prelude.{◌≡◌, ◌<◌, ℕ, ℤ, pos, List, [],
 ghost use Rattle.pmsi_model.specs.declared.instr.Instr.TheVariants.{Jalr, Op, OpImm, Fence};
 ghost use Rattle.asm_parse.specs.Operands.{further};
 ghost use Rattle.asm_parse.specs.Mnemonics.{take_forms, no_operands, ready, form_rr, form_re, form_rc, load_address, load_immediate, fence_word};
-ghost use Rattle.asm_parse.specs.Meanings.{lexemes, took};
+ghost use Rattle.asm_parse.specs.Meanings.{lexemes, whole};
 ghost use Rattle.asm_parse.specs.NameTable.{HasConstants};
 ghost use Rattle.asm_parse.specs.Items.{AreReady, instrs_of, is_ready, op_takes};
 ghost use Rattle.asm_parse.specs.Forms.{forms_of, memory_form, operation_form, fence_form};
@@ -17,11 +17,10 @@ use crate::forms::{
 };
 use crate::item::Instrs::{self, One};
 use crate::item::Item;
-use crate::lexeme::{Lexeme, Took, taken};
+use crate::lexeme::{Lexeme, Whole, taken, whole};
 use crate::loading::{load_address, load_immediate, op_imm};
 use crate::mnemonic::{Memory, Mnemonic, Operation};
 use crate::names::Names;
-use crate::operands::ends;
 use pmsi_model::{ImmOp, Instr, Reg, RegOp};
 
 /// The instructions that a line with this mnemonic and these operands stands for.
@@ -30,9 +29,9 @@ pub(crate) fn take_instrs<'x, 'a>(
     mnemonic: Mnemonic,
     xs: &'x [Lexeme<'a>],
     names: &Names<'a>,
-) -> Took<'x, 'a, Instrs<'a>>
-    ensures forms { (equs : List (List ℕ × ℤ)) → HasConstants names.now equs → took instrs_of result ≡ take_forms (forms_of mnemonic) equs (lexemes xs.now) }
-    ensures sound { IfOk result (λ taken. AreReady taken.0) }
+) -> Whole<'x, 'a, Instrs<'a>>
+    ensures forms { (equs : List (List ℕ × ℤ)) → HasConstants names.now equs → whole instrs_of result ≡ take_forms (forms_of mnemonic) equs (lexemes xs.now) }
+    ensures sound { IfOk result AreReady }
 {
     let zero = Reg::new(0);
     match mnemonic {
@@ -65,43 +64,42 @@ fn ret() -> Instr
     }
 }
 
-fn take_bare<'x, 'a>(instr: Instr, xs: &'x [Lexeme<'a>]) -> Took<'x, 'a, Instrs<'a>>
+fn take_bare<'x, 'a>(instr: Instr, xs: &'x [Lexeme<'a>]) -> Whole<'x, 'a, Instrs<'a>>
     requires { is_ready instr ≡ true }
-    ensures forms { took instrs_of result ≡ no_operands (ready instr) [] (lexemes xs.now) }
-    ensures sound { IfOk result (λ taken. AreReady taken.0) }
+    ensures forms { whole instrs_of result ≡ no_operands (ready instr) [] (lexemes xs.now) }
+    ensures sound { IfOk result AreReady }
 {
-    let (_, xs) = ends((), xs)?;
-    Ok((One(Item::Known(instr)), xs))
+    whole!(One(Item::Known(instr)), xs)
 }
 
 /// An instruction that has an address.
-fn take_access<'x, 'a>(memory: Memory, xs: &'x [Lexeme<'a>]) -> Took<'x, 'a, Instrs<'a>>
-    ensures forms { took instrs_of result ≡ memory_form memory [] (lexemes xs.now) }
-    ensures sound { IfOk result (λ taken. AreReady taken.0) }
+fn take_access<'x, 'a>(memory: Memory, xs: &'x [Lexeme<'a>]) -> Whole<'x, 'a, Instrs<'a>>
+    ensures forms { whole instrs_of result ≡ memory_form memory [] (lexemes xs.now) }
+    ensures sound { IfOk result AreReady }
 {
     match memory {
         Memory::Load(op) => {
-            let ((rd, imm, rs1), xs) = taken!(take_rm(xs));
+            let (rd, imm, rs1) = taken!(take_rm(xs));
             let load = Instr::Load {
                 op,
                 rd,
                 rs1,
                 imm: 0,
             };
-            Ok((One(Item::Immediate(load, imm)), xs))
+            Ok(One(Item::Immediate(load, imm)))
         }
         Memory::Store(op) => {
-            let ((rs2, imm, rs1), xs) = taken!(take_rm(xs));
+            let (rs2, imm, rs1) = taken!(take_rm(xs));
             let store = Instr::Store {
                 op,
                 rs1,
                 rs2,
                 imm: 0,
             };
-            Ok((One(Item::Immediate(store, imm)), xs))
+            Ok(One(Item::Immediate(store, imm)))
         }
         Memory::Amo { op, aq, rl } => {
-            let ((rd, rs2, rs1), xs) = taken!(take_rrb(xs));
+            let (rd, rs2, rs1) = taken!(take_rrb(xs));
             let amo = Instr::Amo {
                 op,
                 rd,
@@ -110,56 +108,56 @@ fn take_access<'x, 'a>(memory: Memory, xs: &'x [Lexeme<'a>]) -> Took<'x, 'a, Ins
                 aq,
                 rl,
             };
-            Ok((One(Item::Known(amo)), xs))
+            Ok(One(Item::Known(amo)))
         }
     }
 }
 
 /// An operation on registers and immediates.
-fn take_operation<'x, 'a>(operation: Operation, xs: &'x [Lexeme<'a>]) -> Took<'x, 'a, Instrs<'a>>
-    ensures forms { took instrs_of result ≡ operation_form operation [] (lexemes xs.now) }
-    ensures sound { IfOk result (λ taken. AreReady taken.0) }
+fn take_operation<'x, 'a>(operation: Operation, xs: &'x [Lexeme<'a>]) -> Whole<'x, 'a, Instrs<'a>>
+    ensures forms { whole instrs_of result ≡ operation_form operation [] (lexemes xs.now) }
+    ensures sound { IfOk result AreReady }
 {
     let zero = Reg::new(0);
     match operation {
         Operation::Lui => {
-            let ((rd, imm), xs) = taken!(take_ri(xs));
-            Ok((One(Item::Immediate(Instr::Lui { rd, imm: 0 }, imm)), xs))
+            let (rd, imm) = taken!(take_ri(xs));
+            Ok(One(Item::Immediate(Instr::Lui { rd, imm: 0 }, imm)))
         }
         Operation::Auipc => {
-            let ((rd, imm), xs) = taken!(take_ri(xs));
-            Ok((One(Item::Immediate(Instr::Auipc { rd, imm: 0 }, imm)), xs))
+            let (rd, imm) = taken!(take_ri(xs));
+            Ok(One(Item::Immediate(Instr::Auipc { rd, imm: 0 }, imm)))
         }
         Operation::Imm(op) => {
-            let ((rd, rs1, imm), xs) = taken!(take_rri(xs));
-            Ok((One(Item::Immediate(op_imm(op, rd, rs1, 0), imm)), xs))
+            let (rd, rs1, imm) = taken!(take_rri(xs));
+            Ok(One(Item::Immediate(op_imm(op, rd, rs1, 0), imm)))
         }
         Operation::Reg(op) => {
-            let ((rd, rs1, rs2), xs) = taken!(take_rrr(xs));
-            Ok((One(Item::Known(op_reg(op, rd, rs1, rs2))), xs))
+            let (rd, rs1, rs2) = taken!(take_rrr(xs));
+            Ok(One(Item::Known(op_reg(op, rd, rs1, rs2))))
         }
         Operation::Mv => take_unary(ImmOp::Addi, 0, xs),
         Operation::Not => take_unary(ImmOp::Xori, -1, xs),
         Operation::Seqz => take_unary(ImmOp::Sltiu, 1, xs),
         Operation::RegZero(op) => {
-            let ((rd, rs1), xs) = taken!(take_rr(xs));
-            Ok((One(Item::Known(op_reg(op, rd, rs1, zero))), xs))
+            let (rd, rs1) = taken!(take_rr(xs));
+            Ok(One(Item::Known(op_reg(op, rd, rs1, zero))))
         }
         Operation::ZeroReg(op) => {
-            let ((rd, rs2), xs) = taken!(take_rr(xs));
-            Ok((One(Item::Known(op_reg(op, rd, zero, rs2))), xs))
+            let (rd, rs2) = taken!(take_rr(xs));
+            Ok(One(Item::Known(op_reg(op, rd, zero, rs2))))
         }
     }
 }
 
 /// An operation on a register with this immediate.
-fn take_unary<'x, 'a>(op: ImmOp, imm: i32, xs: &'x [Lexeme<'a>]) -> Took<'x, 'a, Instrs<'a>>
+fn take_unary<'x, 'a>(op: ImmOp, imm: i32, xs: &'x [Lexeme<'a>]) -> Whole<'x, 'a, Instrs<'a>>
     requires { op_takes op imm ≡ true }
-    ensures forms { took instrs_of result ≡ form_rr (λ rd rs. ready (OpImm op rd rs imm)) [] (lexemes xs.now) }
-    ensures sound { IfOk result (λ taken. AreReady taken.0) }
+    ensures forms { whole instrs_of result ≡ form_rr (λ rd rs. ready (OpImm op rd rs imm)) [] (lexemes xs.now) }
+    ensures sound { IfOk result AreReady }
 {
-    let ((rd, rs1), xs) = taken!(take_rr(xs));
-    Ok((One(Item::Known(op_imm(op, rd, rs1, imm))), xs))
+    let (rd, rs1) = taken!(take_rr(xs));
+    Ok(One(Item::Known(op_imm(op, rd, rs1, imm))))
 }
 
 /// An operation on two registers.
@@ -169,20 +167,20 @@ fn op_reg(op: RegOp, rd: Reg, rs1: Reg, rs2: Reg) -> Instr
     Instr::Op { op, rd, rs1, rs2 }
 }
 
-fn take_fence<'x, 'a>(xs: &'x [Lexeme<'a>]) -> Took<'x, 'a, Instrs<'a>>
-    ensures forms { took instrs_of result ≡ further (no_operands (ready (Fence (fence_word 15 15))) [] (lexemes xs.now)) (fence_form [] (lexemes xs.now)) }
-    ensures sound { IfOk result (λ taken. AreReady taken.0) }
+fn take_fence<'x, 'a>(xs: &'x [Lexeme<'a>]) -> Whole<'x, 'a, Instrs<'a>>
+    ensures forms { whole instrs_of result ≡ further (no_operands (ready (Fence (fence_word 15 15))) [] (lexemes xs.now)) (fence_form [] (lexemes xs.now)) }
+    ensures sound { IfOk result AreReady }
 {
     further!(take_bare(fence(15, 15), xs), take_fence_sets(xs))
 }
 
 /// A fence with two sets.
-fn take_fence_sets<'x, 'a>(xs: &'x [Lexeme<'a>]) -> Took<'x, 'a, Instrs<'a>>
-    ensures forms { took instrs_of result ≡ fence_form [] (lexemes xs.now) }
-    ensures sound { IfOk result (λ taken. AreReady taken.0) }
+fn take_fence_sets<'x, 'a>(xs: &'x [Lexeme<'a>]) -> Whole<'x, 'a, Instrs<'a>>
+    ensures forms { whole instrs_of result ≡ fence_form [] (lexemes xs.now) }
+    ensures sound { IfOk result AreReady }
 {
-    let ((before, after), xs) = taken!(take_ff(xs));
-    Ok((One(Item::Known(fence(before, after))), xs))
+    let (before, after) = taken!(take_ff(xs));
+    Ok(One(Item::Known(fence(before, after))))
 }
 
 /// The fence of two sets.
@@ -195,18 +193,18 @@ fn fence(before: u32, after: u32) -> Instr
     }
 }
 
-fn take_li<'x, 'a>(xs: &'x [Lexeme<'a>], names: &Names<'a>) -> Took<'x, 'a, Instrs<'a>>
-    ensures forms { (equs : List (List ℕ × ℤ)) → HasConstants names.now equs → took instrs_of result ≡ form_rc load_immediate equs (lexemes xs.now) }
-    ensures sound { IfOk result (λ taken. AreReady taken.0) }
+fn take_li<'x, 'a>(xs: &'x [Lexeme<'a>], names: &Names<'a>) -> Whole<'x, 'a, Instrs<'a>>
+    ensures forms { (equs : List (List ℕ × ℤ)) → HasConstants names.now equs → whole instrs_of result ≡ form_rc load_immediate equs (lexemes xs.now) }
+    ensures sound { IfOk result AreReady }
 {
-    let ((rd, expr, value), xs) = taken!(take_rc(xs, names));
-    Ok((load_immediate(rd, &expr, value), xs))
+    let (rd, expr, value) = taken!(take_rc(xs, names));
+    Ok(load_immediate(rd, &expr, value))
 }
 
-fn take_la<'x, 'a>(xs: &'x [Lexeme<'a>]) -> Took<'x, 'a, Instrs<'a>>
-    ensures forms { took instrs_of result ≡ form_re load_address [] (lexemes xs.now) }
-    ensures sound { IfOk result (λ taken. AreReady taken.0) }
+fn take_la<'x, 'a>(xs: &'x [Lexeme<'a>]) -> Whole<'x, 'a, Instrs<'a>>
+    ensures forms { whole instrs_of result ≡ form_re load_address [] (lexemes xs.now) }
+    ensures sound { IfOk result AreReady }
 {
-    let ((rd, address), xs) = taken!(take_re(xs));
-    Ok((load_address(rd, &address), xs))
+    let (rd, address) = taken!(take_re(xs));
+    Ok(load_address(rd, &address))
 }

@@ -27,8 +27,11 @@ pub struct Lexeme<'a> {
 /// that doesn't fit.
 pub(crate) type Took<'x, 'a, T> = Result<(T, &'x [Lexeme<'a>]), &'x [Lexeme<'a>]>;
 
-/// What was taken and the tokens that are left; where something doesn't fit, the function ends with it, as by `?`, which
-/// the borrow checker doesn't cover for a value that has both a reference and an invariant.
+/// What all of some tokens come to; or the tokens from the one on that doesn't fit.
+pub(crate) type Whole<'x, 'a, T> = Result<T, &'x [Lexeme<'a>]>;
+
+/// What was taken; where something doesn't fit, the function ends with it, as by `?`, which the borrow checker doesn't
+/// cover for a value that has both a reference and an invariant.
 macro_rules! taken {
     ($took:expr) => {
         match $took {
@@ -40,8 +43,20 @@ macro_rules! taken {
 
 pub(crate) use taken;
 
+/// What was taken, where no tokens are left.
+macro_rules! whole {
+    ($taken:expr, $left:expr) => {
+        match $left {
+            [] => Ok($taken),
+            left => Err(left),
+        }
+    };
+}
+
+pub(crate) use whole;
+
 /// Why operands weren't taken where memory may run out.
-#[derive(Clone, Copy, Debug)]
+#[derive(Clone, Copy)]
 pub(crate) enum Stop<'x, 'a> {
     /// The tokens from the one on that doesn't fit.
     Misfit(&'x [Lexeme<'a>]),

@@ -1,13 +1,13 @@
 //! Lists of expressions.
 
 ghost use Rattle.std.specs.Prelude.{◌≡◌, [], map, IfOk, IfErr};
-ghost use Rattle.asm_parse.specs.Operands.{Taken, Stuck, take_exprs, take_expr, take_next};
-ghost use Rattle.asm_parse.specs.Meanings.{expr, lexemes, took, StopsAt};
+ghost use Rattle.asm_parse.specs.Operands.{Taken, Stuck, take_exprs};
+ghost use Rattle.asm_parse.specs.Meanings.{expr, lexemes, StopsAt};
 
 use crate::expr::Expr;
-use crate::lexeme::{Lexeme, Stop, Took, taken};
-use crate::operands::{take_expr, take_kind};
-use crate::token::TokenKind;
+use crate::forms::take_next_expr;
+use crate::lexeme::{Lexeme, Stop, taken};
+use crate::operands::take_expr;
 use std::alloc::Global;
 
 /// One expression or more, up to the line's end.
@@ -31,12 +31,4 @@ pub(crate) fn take_exprs<'x, 'a>(
         left = rest;
     }
     Ok(found)
-}
-
-/// An expression behind a comma.
-fn take_next_expr<'x, 'a>(xs: &'x [Lexeme<'a>]) -> Took<'x, 'a, Expr<'a>>
-    ensures { took expr result ≡ take_next take_expr (lexemes xs.now) }
-{
-    let (_, xs) = take_kind(TokenKind::Comma, xs)?;
-    take_expr(xs)
 }

@@ -9,7 +9,7 @@ use crate::fault::{AsmCause, AsmFault};
 use crate::lexeme::Lexeme;
 
 /// Why a line isn't read.
-#[derive(Clone, Copy, Debug)]
+#[derive(Clone, Copy)]
 pub(crate) enum Misread {
     /// No mnemonic and no directive stands at this column, where one must stand.
     Word(u32),

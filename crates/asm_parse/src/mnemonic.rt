@@ -2,13 +2,13 @@
 
 ghost use Rattle.std.specs.Prelude.{◌≡◌, ◌++◌, option_map};
 ghost use Rattle.asm_parse.specs.Numbers.{value_in};
-ghost use Rattle.asm_parse.specs.Mnemonics.{forms_named, imm_ops, shift_ops, amo_ops, upper_and_jump_rows, branch_rows, load_and_store_rows, imm_rows, reg_rows, amo_rows, fence_and_system_rows, pseudo_operation_rows, pseudo_branch_rows, pseudo_jump_and_load_rows};
+ghost use Rattle.asm_parse.specs.Mnemonics.{forms_named, imm_ops, shift_ops, amo_ops, upper_and_jump_rows, branch_rows, load_and_store_rows, imm_rows, reg_rows, amo_rows, fence_and_system_rows, pseudo_operation_rows, branch_zero_rows, swapped_branch_rows, pseudo_jump_and_load_rows};
 ghost use Rattle.asm_parse.specs.Forms.{forms_of, IsCut};
 
 use pmsi_model::{AmoOp, BranchOp, ImmOp, LoadOp, Reg, RegOp, StoreOp};
 
 /// An instruction or pseudo-instruction, or several that have the same forms.
-#[derive(Clone, Copy, Debug, PartialEq, Eq)]
+#[derive(Clone, Copy)]
 pub(crate) enum Mnemonic {
     Jal,
     Jalr,
@@ -32,7 +32,7 @@ pub(crate) enum Mnemonic {
 }
 
 /// An instruction that has an address.
-#[derive(Clone, Copy, Debug, PartialEq, Eq)]
+#[derive(Clone, Copy)]
 pub(crate) enum Memory {
     Load(LoadOp),
     Store(StoreOp),
@@ -40,7 +40,7 @@ pub(crate) enum Memory {
 }
 
 /// An operation on registers and immediates.
-#[derive(Clone, Copy, Debug, PartialEq, Eq)]
+#[derive(Clone, Copy)]
 pub(crate) enum Operation {
     Lui,
     Auipc,
@@ -67,7 +67,8 @@ pub(crate) fn mnemonic_named(name: &str) -> Option<Mnemonic>
         .or(amo_named(name))
         .or(fence_or_system_named(name))
         .or(pseudo_operation_named(name))
-        .or(pseudo_branch_named(name))
+        .or(branch_zero_named(name))
+        .or(swapped_branch_named(name))
         .or(pseudo_jump_or_load_named(name))
 }
 
@@ -232,27 +233,32 @@ fn pseudo_operation_named(name: &str) -> Option<Mnemonic>
     Some(Mnemonic::Operation(operation))
 }
 
-fn pseudo_branch_named(name: &str) -> Option<Mnemonic>
-    ensures { option_map forms_of result ≡ value_in pseudo_branch_rows name.now }
+fn branch_zero_named(name: &str) -> Option<Mnemonic>
+    ensures { option_map forms_of result ≡ value_in branch_zero_rows name.now }
 {
-    let (op, swapped, with_zero) = match name {
-        "beqz" => (BranchOp::Beq, false, true),
-        "bnez" => (BranchOp::Bne, false, true),
-        "blez" => (BranchOp::Bge, true, true),
-        "bgez" => (BranchOp::Bge, false, true),
-        "bltz" => (BranchOp::Blt, false, true),
-        "bgtz" => (BranchOp::Blt, true, true),
-        "bgt" => (BranchOp::Blt, true, false),
-        "ble" => (BranchOp::Bge, true, false),
-        "bgtu" => (BranchOp::Bltu, true, false),
-        "bleu" => (BranchOp::Bgeu, true, false),
+    let (op, swapped) = match name {
+        "beqz" => (BranchOp::Beq, false),
+        "bnez" => (BranchOp::Bne, false),
+        "blez" => (BranchOp::Bge, true),
+        "bgez" => (BranchOp::Bge, false),
+        "bltz" => (BranchOp::Blt, false),
+        "bgtz" => (BranchOp::Blt, true),
         _ => return None,
     };
-    Some(if with_zero {
-        Mnemonic::BranchZero { op, swapped }
-    } else {
-        Mnemonic::Branch { op, swapped }
-    })
+    Some(Mnemonic::BranchZero { op, swapped })
+}
+
+fn swapped_branch_named(name: &str) -> Option<Mnemonic>
+    ensures { option_map forms_of result ≡ value_in swapped_branch_rows name.now }
+{
+    let op = match name {
+        "bgt" => BranchOp::Blt,
+        "ble" => BranchOp::Bge,
+        "bgtu" => BranchOp::Bltu,
+        "bleu" => BranchOp::Bgeu,
+        _ => return None,
+    };
+    Some(Mnemonic::Branch { op, swapped: true })
 }
 
 fn pseudo_jump_or_load_named(name: &str) -> Option<Mnemonic>

@@ -1,6 +1,6 @@
 //! The names that a source defines.
 
-ghost use Rattle.std.specs.Prelude.{◌≡◌, ◌≢◌, ℕ, List, map, Option, Some, None, IfOk};
+ghost use Rattle.std.specs.Prelude.{◌≡◌, ◌≢◌, ℕ, List, map, Option, Some, None, IfOk, IfErr};
 ghost use Rattle.std.specs.Option.{option_map};
 ghost use Rattle.asm_parse.specs.declared.names.Named.{Named};
 ghost use Rattle.asm_parse.specs.NameTable.{named, constant_value};
@@ -57,11 +57,12 @@ impl<'a> Names<'a> {
         }
     }
 
-    /// Defines a name that isn't defined yet.
+    /// Defines a name that isn't defined yet. Where memory runs out, the names stay as they were.
     #[tactic(auto, unfolding(crate::specs::NameTable::named))]
     pub fn define(&mut self, name: &'a str, value: Named) -> Result<(), AllocError>
         requires { named self.old name.now ≡ None }
         ensures this { IfOk result (λ _. named self.new name.now ≡ Some value) }
+        ensures unchanged { IfErr result (λ _. (other : List ℕ) → named self.new other ≡ named self.old other) }
         ensures others { IfOk result (λ _. (other : List ℕ) → other ≢ name.now → named self.new other ≡ named self.old other) }
     {
         match self.table.insert(name, value) {

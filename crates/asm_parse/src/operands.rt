@@ -2,7 +2,7 @@
 
 ghost use Rattle.std.specs.Prelude.{◌≡◌, ℕ, ℤ, ◌<◌, List, Bool, IfOk};
 ghost use Rattle.asm_parse.specs.declared.lexeme.Lexeme.{Lexeme};
-ghost use Rattle.asm_parse.specs.Operands.{first_is, has_kind, is_unknown, if_in_range, expr_value, take_kind, take_one, take_literal, take_offset, negated, take_expr, take_part, part_if, take_imm, take_register, take_in_parentheses, take_memory, take_base, take_fences, take_constant, no_imm, ends};
+ghost use Rattle.asm_parse.specs.Operands.{first_is, has_kind, is_unknown, if_in_range, expr_value, take_kind, take_one, take_literal, take_offset, negated, take_expr, take_part, part_if, take_imm, take_register, take_in_parentheses, take_memory, take_base, take_fences, take_constant, no_imm};
 ghost use Rattle.asm_parse.specs.Meanings.{lexeme, lexemes, expr, imm, took};
 ghost use Rattle.asm_parse.specs.NameTable.{HasConstants};
 
@@ -31,16 +31,6 @@ pub(crate) fn take_kind<'x, 'a>(kind: TokenKind, xs: &'x [Lexeme<'a>]) -> Took<'
 {
     match xs {
         [x, rest @ ..] if x.kind == kind => Ok((*x, rest)),
-        _ => Err(xs),
-    }
-}
-
-/// The line's end, with what was taken before.
-pub(crate) fn ends<'x, 'a, T: Drop>(taken: T, xs: &'x [Lexeme<'a>]) -> Took<'x, 'a, T>
-    ensures { took (λ t. t) result ≡ ends taken (lexemes xs.now) }
-{
-    match xs {
-        [] => Ok((taken, xs)),
         _ => Err(xs),
     }
 }
@@ -101,7 +91,7 @@ fn take_offset<'x, 'a>(name: &Lexeme<'a>, xs: &'x [Lexeme<'a>]) -> Took<'x, 'a, 
     Ok((expr, xs))
 }
 
-/// The number taken from 0.
+/// The number taken from 0, if there is one.
 fn negated(number: Option<Number>) -> Option<Number>
     ensures { result ≡ negated number }
 {
@@ -110,13 +100,14 @@ fn negated(number: Option<Number>) -> Option<Number>
 }
 
 /// An expression or a part of one.
-#[tactic(auto, unfolding(crate::specs::Operands::take_imm))]
+#[tactic(auto, unfolding(crate::specs::Operands::take_imm, crate::specs::Operands::take_kind))]
 pub(crate) fn take_imm<'x, 'a>(xs: &'x [Lexeme<'a>]) -> Took<'x, 'a, Imm<'a>>
     ensures { took imm result ≡ take_imm (lexemes xs.now) }
 {
-    if is_next(TokenKind::Percent, xs) {
-        let (percent, xs) = take_kind(TokenKind::Percent, xs)?;
-        return take_part(&percent, xs);
+    if let [percent, rest @ ..] = xs {
+        if percent.kind == TokenKind::Percent {
+            return take_part(percent, rest);
+        }
     }
     let (expr, xs) = taken!(take_expr(xs));
     let column = expr.column;
@@ -149,10 +140,12 @@ fn take_part<'x, 'a>(percent: &Lexeme<'a>, xs: &'x [Lexeme<'a>]) -> Took<'x, 'a,
 fn take_part_name<'x, 'a>(xs: &'x [Lexeme<'a>]) -> Took<'x, 'a, Part>
     ensures { took (λ part. part) result ≡ take_one part_if (lexemes xs.now) }
 {
-    let (name, rest) = take_kind(TokenKind::Word, xs)?;
-    match name.text {
-        "hi" => Ok((Part::High, rest)),
-        "lo" => Ok((Part::Low, rest)),
+    match xs {
+        [name, rest @ ..] if name.kind == TokenKind::Word => match name.text {
+            "hi" => Ok((Part::High, rest)),
+            "lo" => Ok((Part::Low, rest)),
+            _ => Err(xs),
+        },
         _ => Err(xs),
     }
 }
@@ -162,9 +155,13 @@ fn take_part_name<'x, 'a>(xs: &'x [Lexeme<'a>]) -> Took<'x, 'a, Part>
 pub(crate) fn take_register<'x, 'a>(xs: &'x [Lexeme<'a>]) -> Took<'x, 'a, Reg>
     ensures { took (λ r. r) result ≡ take_register (lexemes xs.now) }
 {
-    let (name, rest) = take_kind(TokenKind::Word, xs)?;
-    let register = register_named(name.text).ok_or(xs)?;
-    Ok((register, rest))
+    match xs {
+        [name, rest @ ..] if name.kind == TokenKind::Word => match register_named(name.text) {
+            Some(register) => Ok((register, rest)),
+            None => Err(xs),
+        },
+        _ => Err(xs),
+    }
 }
 
 /// A register in parentheses.
@@ -178,7 +175,7 @@ pub(crate) fn take_in_parentheses<'x, 'a>(xs: &'x [Lexeme<'a>]) -> Took<'x, 'a, 
     Ok((register, xs))
 }
 
-/// The immediate that is left out.
+/// The immediate 0, which an address has where it is left out.
 fn no_imm<'a>() -> Imm<'a>
     ensures { imm result ≡ no_imm }
 {
@@ -214,14 +211,13 @@ pub(crate) fn take_memory<'x, 'a>(xs: &'x [Lexeme<'a>]) -> Took<'x, 'a, (Imm<'a>
 pub(crate) fn take_base<'x, 'a>(xs: &'x [Lexeme<'a>]) -> Took<'x, 'a, Reg>
     ensures { took (λ r. r) result ≡ take_base (lexemes xs.now) }
 {
-    if is_next(TokenKind::Open, xs) {
-        return take_in_parentheses(xs);
+    match xs {
+        [open, ..] if open.kind == TokenKind::Open => take_in_parentheses(xs),
+        [zero, rest @ ..] if zero.kind == TokenKind::Number && zero.text == "0" => {
+            take_in_parentheses(rest)
+        }
+        _ => Err(xs),
     }
-    let (zero, rest) = take_kind(TokenKind::Number, xs)?;
-    if zero.text != "0" {
-        return Err(xs);
-    }
-    take_in_parentheses(rest)
 }
 
 /// Letters of a fence, as the sum of their weights, below 16.
@@ -230,9 +226,13 @@ pub(crate) fn take_fences<'x, 'a>(xs: &'x [Lexeme<'a>]) -> Took<'x, 'a, u32>
     ensures set { took (λ n. n) result ≡ take_fences (lexemes xs.now) }
     ensures within { IfOk result (λ x. x.0 < 16) }
 {
-    let (letters, rest) = take_kind(TokenKind::Word, xs)?;
-    let set = fence_set(letters.text).ok_or(xs)?;
-    Ok((set, rest))
+    match xs {
+        [letters, rest @ ..] if letters.kind == TokenKind::Word => match fence_set(letters.text) {
+            Some(set) => Ok((set, rest)),
+            None => Err(xs),
+        },
+        _ => Err(xs),
+    }
 }
 
 /// An expression whose name, if it has one, is that of an earlier `.equ`; with its value, unless it is out of range.

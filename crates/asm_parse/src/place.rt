@@ -1,6 +1,7 @@
 //! Where a line stands.
 
-/// The space that lines go to, and the next addresses of text and of data, in bytes.
+/// Where a line stands: whether it goes to data or else to text, and the next addresses of text and of data, in bytes.
+/// Behind an `.org` the one of data may lie below data that stands already.
 #[derive(Clone, Copy, Debug, PartialEq, Eq)]
 pub struct Place {
     pub in_data: bool,

@@ -131,7 +131,7 @@ fn read_instrs<'a>(
     ensures read { (equs : List (List ℕ × ℤ)) → HasConstants names.now equs → IsRead result (Asks (read_items 4 (take_forms (forms_of mnemonic) equs (lexemes xs.now)))) }
     ensures sound { IfOk result (λ does. IsSound false does) }
 {
-    let (instrs, _) = taken!(take_instrs(mnemonic, xs, names));
+    let instrs = taken!(take_instrs(mnemonic, xs, names));
     check_instrs(&instrs).map_err(Misread::Number)?;
     Ok(Statement::Instrs(instrs))
 }

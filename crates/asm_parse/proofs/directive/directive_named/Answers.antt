@@ -1,9 +1,9 @@
 -- The name is none of the table's.
-use Rattle.std.proofs.Common.{rules}
+use Rattle.std.proofs.Common.{sym}
 use Rattle.asm_parse.specs.Assembly.{directives, directive_named}
-use Rattle.asm_parse.proofs.Rows.{other_row}
+use Rattle.asm_parse.proofs.Tables.{value_in-none}
 use Rattle.asm_parse.proofs.directive.directive_named.Goals as goal
 
 pub returns-in_default : goal.returns-in_default
 unfolding directive_named directives
-returns-in_default c = search (rules, other_row)
+returns-in_default c = sym (value_in-none directives c.args.name.now assumption)

@@ -1,5 +1,5 @@
 use Rattle.std.proofs.Common.{◌++◌}
-use Rattle.asm_parse.specs.Mnemonics.{mnemonics, forms_named, upper_and_jump_rows, branch_rows, load_and_store_rows, imm_rows, reg_rows, amo_rows, fence_and_system_rows, pseudo_operation_rows, pseudo_branch_rows, pseudo_jump_and_load_rows}
+use Rattle.asm_parse.specs.Mnemonics.{mnemonics, forms_named, upper_and_jump_rows, branch_rows, load_and_store_rows, imm_rows, reg_rows, amo_rows, fence_and_system_rows, pseudo_operation_rows, branch_zero_rows, swapped_branch_rows, pseudo_jump_and_load_rows}
 use Rattle.asm_parse.proofs.MnemonicTables.{either_named}
 use Rattle.asm_parse.proofs.mnemonic.mnemonic_named.Goals as goal
 
@@ -23,7 +23,9 @@ returns c =
     let found-6 = either_named _ _ _ rows-5 fence_and_system_rows name found-5 c.fence_or_system_named.ensures c.or-6.ensures in
     let rows-7 = rows-6 ++ pseudo_operation_rows in
     let found-7 = either_named _ _ _ rows-6 pseudo_operation_rows name found-6 c.pseudo_operation_named.ensures c.or-7.ensures in
-    let rows-8 = rows-7 ++ pseudo_branch_rows in
-    let found-8 = either_named _ _ _ rows-7 pseudo_branch_rows name found-7 c.pseudo_branch_named.ensures c.or-8.ensures in
-    let found-9 = either_named _ _ _ rows-8 pseudo_jump_and_load_rows name found-8 c.pseudo_jump_or_load_named.ensures c.or-9.ensures in
-    found-9
+    let rows-8 = rows-7 ++ branch_zero_rows in
+    let found-8 = either_named _ _ _ rows-7 branch_zero_rows name found-7 c.branch_zero_named.ensures c.or-8.ensures in
+    let rows-9 = rows-8 ++ swapped_branch_rows in
+    let found-9 = either_named _ _ _ rows-8 swapped_branch_rows name found-8 c.swapped_branch_named.ensures c.or-9.ensures in
+    let found-10 = either_named _ _ _ rows-9 pseudo_jump_and_load_rows name found-9 c.pseudo_jump_or_load_named.ensures c.or-10.ensures in
+    found-10

@@ -1,8 +1,8 @@
-use Rattle.std.proofs.Common.{sym}
-use Rattle.asm_parse.specs.Numbers.{register_named, registers}
-use Rattle.asm_parse.proofs.Tables.{value_in-none}
+use Rattle.std.proofs.Common.{arith}
+use Rattle.asm_parse.specs.Numbers.{register_named, numbered_registers, conventional_registers}
+use Rattle.asm_parse.proofs.Tables.{value_in_append}
 use Rattle.asm_parse.proofs.spelling.register_named.Goals as goal
 
-pub returns-in_default : goal.returns-in_default
+pub returns : goal.returns
 unfolding register_named
-returns-in_default c = sym (value_in-none registers c.args.text.now assumption)
+returns c = let either = value_in_append numbered_registers conventional_registers c.args.text.now in grind (arith, either)
