@@ -10,6 +10,7 @@ use Rattle.pmsi_model.specs.Run.{machine_at}
 use Rattle.pmsi_model.specs.Coherent.{ListsEachOnce, posted_request, victim_in}
 use Rattle.coherence_laws.specs.Laws.{WriteBacksFit}
 use Rattle.pmsi_model.proofs.Requests.{requests_within, requests_below}
+use Rattle.coherence_laws.proofs.Fine.{FineCore}
 use Rattle.coherence_laws.proofs.Whole.{IsWhole}
 use Rattle.coherence_laws.proofs.Slots.{whole_at}
 
@@ -76,6 +77,17 @@ backs_within shape slot posted cores c (Some victim) w below is = let f = w.fine
     let requests : length posted + 1 ≤ shape.cores =
     requests_below shape.cores posted c w.once (no_request shape slot posted cores w) below free in
     let counts = line_count victim backs f.back_once in omega arith
+
+-- a core that wants nothing has no request, so it has fewer lines to write back than there are cores
+pub backs_fewer : (shape : Geometry) (slot : ℕ) (posted : List Request) (cores : ℕ → CoreState) (c : ℕ) (k : CoreState)
+    → IsWhole shape slot posted cores → FineCore shape slot posted c k → c < shape.cores → k.want ≡ None
+    → length k.write_backs < shape.cores
+backs_fewer shape slot posted cores c k w f below none =
+    let lines : length k.write_backs ≤ length posted = lines_within posted k.write_backs f.back_once (λ l has. grind (arith, f.back_due l has)) in
+    let free : request_of c posted ≡ None = f.posted_wants ∙ ap (posted_request c) none in
+    let requests : length posted + 1 ≤ shape.cores =
+    requests_below shape.cores posted c w.once (no_request shape slot posted cores w) below free in
+    omega arith
 
 none_listed : (lines : List ℕ) → ((l : ℕ) → has_line l lines ≢ true) → length lines ≡ 0
 none_listed [] none = refl

@@ -7,3 +7,10 @@ pub mod Acts
 pub mod Phases
 pub mod Slots
 pub mod Counts
+pub mod ApartBytes
+pub mod ApartEffects
+pub mod ApartPhases
+pub mod ApartMemory
+pub mod Apart
+pub mod ApartLines
+pub mod ApartWants

@@ -1,0 +1,165 @@
+-- The lines of memory, and what an access finds and leaves there.
+use Rattle.std.proofs.Common.{◌≡◌, ◌≢◌, ℕ, ◌+◌, ◌-◌, ◌*◌, ◌/◌, ◌%◌, ◌<◌, ◌≤◌, List, length, drop, get_or, All, refl, sym, ap, ◌∙◌, subst, arith}
+use Rattle.std.proofs.lemmas.List.{ext_get_or, length-take, length-drop}
+use Rattle.std.proofs.lemmas.Nat.{div-add-mod', mod_below}
+use Rattle.std.proofs.Math.Nat.{div-div-eq-div-mul, div-eq_of_lt-le}
+use mathlib.Core.Logic.{dite}
+use native.Mathlib.Decide.{dec_le}
+use Rattle.pmsi_model.specs.declared.job.Geometry.{Geometry}
+use Rattle.pmsi_model.specs.declared.Access.{Access}
+use Rattle.pmsi_model.specs.declared.AccessOp.{AccessOp}
+use Rattle.pmsi_model.specs.declared.AccessOp.TheVariants.{Load, Store, Amo}
+use Rattle.pmsi_model.specs.declared.Kind.TheVariants.{Read}
+use Rattle.pmsi_model.specs.declared.instr.LoadOp.TheVariants.{Lb, Lh, Lw, Lbu, Lhu}
+use Rattle.pmsi_model.specs.declared.instr.StoreOp.TheVariants.{Sb, Sh, Sw}
+use Rattle.pmsi_model.specs.Geometry.{line_bytes, line_of}
+use Rattle.pmsi_model.specs.Words.{number_of}
+use Rattle.pmsi_model.specs.Access.{width_of, kind_of, store_width, access_bytes, amo_word}
+use Rattle.pmsi_model.specs.Phase.{bytes_from, with_bytes, met_bytes, memory_after}
+use Rattle.pmsi_model.proofs.Bytes.{length-bytes_from, get_or-bytes_from, bytes_from_below, length-with_bytes, with_bytes_below, get_or-with_bytes_before, get_or-with_bytes_past, get_or-with_bytes_at, length-bytes_of, bytes_of_below, with_bytes_same}
+use Rattle.coherence_laws.specs.Apart.{line_bytes_in}
+
+-- ---- lines
+
+-- two memories have the same bytes on a line
+abbrev pub SameLine : Geometry → ℕ → List ℕ → List ℕ → Type 0
+SameLine shape line m n = (at : ℕ) → line_of shape at ≡ line → get_or m at 0 ≡ get_or n at 0
+
+next_line : (line size : ℕ) → (line + 1) * size ≡ line * size + size
+next_line line size = grind arith
+
+-- an address of a line, by its place there
+pub line_of-place : (shape : Geometry) (line place : ℕ) → place < line_bytes shape → line_of shape (line * line_bytes shape + place) ≡ line
+line_of-place shape line place below = div-eq_of_lt-le (line_bytes shape) (omega arith) (let m = next_line line (line_bytes shape) in omega arith)
+
+length-bytes_from_same : (address width : ℕ) (m n : List ℕ) → length m ≡ length n → length (bytes_from address width m) ≡ length (bytes_from address width n)
+length-bytes_from_same address width m n same = length-take width (drop address m)
+    ∙ omega (arith, length-drop address m, length-drop address n) ∙ sym (length-take width (drop address n))
+
+length-bytes_from_most : (address width : ℕ) (m : List ℕ) → length (bytes_from address width m) ≤ width
+length-bytes_from_most address width m = omega (arith, length-take width (drop address m))
+
+-- bytes from an address on are the same where each byte is
+pub same_bytes_from : (address width : ℕ) (m n : List ℕ) → length m ≡ length n → ((place : ℕ) → place < width → get_or m (address + place) 0 ≡ get_or n (address + place) 0)
+    → bytes_from address width m ≡ bytes_from address width n
+same_bytes_from address width m n same each = ext_get_or 0 (bytes_from address width m) (bytes_from address width n) (length-bytes_from_same address width m n same)
+    (λ place below. let short : place < width = omega (arith, length-bytes_from_most address width m) in
+    get_or-bytes_from address width m place short ∙ each place short ∙ sym (get_or-bytes_from address width n place short))
+
+-- the bytes of a line are the same where each byte of it is
+pub line_bytes-same : (shape : Geometry) (line : ℕ) (m n : List ℕ) → length m ≡ length n → SameLine shape line m n → line_bytes_in shape line m ≡ line_bytes_in shape line n
+line_bytes-same shape line m n size same = same_bytes_from (line * line_bytes shape) (line_bytes shape) m n size
+    (λ place below. same (line * line_bytes shape + place) (line_of-place shape line place below))
+
+-- and only there
+pub same_line-bytes : (shape : Geometry) (line : ℕ) (m n : List ℕ) → 0 < shape.line_words → line_bytes_in shape line m ≡ line_bytes_in shape line n → SameLine shape line m n
+same_line-bytes shape line m n some same at on =
+    let size : ℕ = line_bytes shape in let place : ℕ = at % line_bytes shape in
+    let below : at % line_bytes shape < line_bytes shape = mod_below at (line_bytes shape) (omega arith) in
+    let there : line * line_bytes shape + at % line_bytes shape ≡ at = ap (λ (l : ℕ). l * line_bytes shape + at % line_bytes shape) (sym on) ∙ div-add-mod' at (line_bytes shape) in
+    subst (λ (a : ℕ). get_or m a 0 ≡ get_or n a 0) there
+    (sym (get_or-bytes_from (line * line_bytes shape) (line_bytes shape) m (at % line_bytes shape) below) ∙ ap (λ (bytes : List ℕ). get_or bytes (at % line_bytes shape) 0) same
+    ∙ get_or-bytes_from (line * line_bytes shape) (line_bytes shape) n (at % line_bytes shape) below)
+
+-- the addresses of an aligned word lie on one line
+pub same_word_line : (shape : Geometry) (a b : ℕ) → a / 4 ≡ b / 4 → line_of shape a ≡ line_of shape b
+same_word_line shape a b same = sym (div-div-eq-div-mul a 4 shape.line_words) ∙ ap (λ (n : ℕ). n / shape.line_words) same ∙ div-div-eq-div-mul b 4 shape.line_words
+
+-- ---- an access that is aligned, and within a memory of this size
+
+pub record IsFit (size : ℕ) (access : Access) : Type 0 where
+  pub aligned : access.address % width_of access.op ≡ 0
+  pub within : access.address + width_of access.op ≤ size
+
+-- it lies within an aligned word
+pub lane_fits : (op : AccessOp) (a : ℕ) → a % width_of op ≡ 0 → a % 4 + width_of op ≤ 4
+lane_fits (Load Lb) a h = omega arith
+lane_fits (Load Lbu) a h = omega arith
+lane_fits (Load Lh) a h = omega arith
+lane_fits (Load Lhu) a h = omega arith
+lane_fits (Load Lw) a h = omega arith
+lane_fits (Store Sb) a h = omega arith
+lane_fits (Store Sh) a h = omega arith
+lane_fits (Store Sw) a h = omega arith
+lane_fits (Amo op) a h = omega arith
+
+-- and so on one line
+pub covered_line : (shape : Geometry) (access : Access) (at : ℕ) → access.address % width_of access.op ≡ 0 → access.address ≤ at → at < access.address + width_of access.op
+    → line_of shape at ≡ line_of shape access.address
+covered_line shape access at aligned low high = same_word_line shape at access.address (omega (arith, lane_fits access.op access.address aligned))
+
+-- the new bytes are as many as those met, and are bytes
+pub access_size : (op : AccessOp) (operand : ℕ) (bytes : List ℕ) → length bytes ≡ width_of op → length (access_bytes op operand bytes) ≡ width_of op
+access_size (Load op) operand bytes size = size
+access_size (Store op) operand bytes size = length-bytes_of (store_width op) operand
+access_size (Amo op) operand bytes size = length-bytes_of 4 (amo_word op (number_of bytes) operand)
+
+pub access_below : (op : AccessOp) (operand : ℕ) (bytes : List ℕ) → All (λ byte. byte < 256) bytes → All (λ byte. byte < 256) (access_bytes op operand bytes)
+access_below (Load op) operand bytes small = small
+access_below (Store op) operand bytes small = bytes_of_below (store_width op) operand
+access_below (Amo op) operand bytes small = bytes_of_below 4 (amo_word op (number_of bytes) operand)
+
+-- a read leaves what it met
+read_keeps : (op : AccessOp) (operand : ℕ) (bytes : List ℕ) → kind_of op ≡ Read → access_bytes op operand bytes ≡ bytes
+read_keeps (Load op) operand bytes h = refl
+read_keeps (Store op) operand bytes h = absurd (cc)
+read_keeps (Amo op) operand bytes h = absurd (cc)
+
+-- memory keeps its size, and its bytes are bytes
+pub length-memory_after : (access : Access) (memory : List ℕ) → length (memory_after access memory) ≡ length memory
+length-memory_after access memory = length-with_bytes access.address (access_bytes access.op access.operand (met_bytes access memory)) memory
+
+pub memory_after_below : (access : Access) (memory : List ℕ) → All (λ byte. byte < 256) memory → All (λ byte. byte < 256) (memory_after access memory)
+memory_after_below access memory small = with_bytes_below access.address (access_bytes access.op access.operand (met_bytes access memory)) memory
+    (access_below access.op access.operand (met_bytes access memory) (bytes_from_below access.address (width_of access.op) memory small)) small
+
+pub new_size : (access : Access) (memory : List ℕ) → IsFit (length memory) access → length (access_bytes access.op access.operand (met_bytes access memory)) ≡ width_of access.op
+new_size access memory fit = access_size access.op access.operand (met_bytes access memory) (length-bytes_from access.address (width_of access.op) memory fit.within)
+
+-- a read changes no byte
+pub read_after : (access : Access) (memory : List ℕ) → IsFit (length memory) access → kind_of access.op ≡ Read → memory_after access memory ≡ memory
+read_after access memory fit reads = ap (λ (bytes : List ℕ). with_bytes access.address bytes memory) (read_keeps access.op access.operand (met_bytes access memory) reads)
+    ∙ with_bytes_same access.address (width_of access.op) memory fit.within
+
+-- a byte past the access stays
+uncovered_after : (access : Access) (memory : List ℕ) (at : ℕ) → IsFit (length memory) access → (access.address ≤ at → at < access.address + width_of access.op → ⊥)
+    → get_or (memory_after access memory) at 0 ≡ get_or memory at 0
+uncovered_after access memory at fit clear = let size = new_size access memory fit in let bytes : List ℕ = access_bytes access.op access.operand (met_bytes access memory) in
+    dite (dec_le access.address at)
+    (λ low. dite (dec_le (access.address + width_of access.op) at)
+    (λ past. get_or-with_bytes_past access.address bytes memory at (omega (arith, size)))
+    (λ within. absurd (clear low (omega arith))))
+    (λ under. get_or-with_bytes_before access.address bytes memory at (omega arith))
+
+-- no byte of another line changes
+pub other_line_after : (shape : Geometry) (access : Access) (memory : List ℕ) (at : ℕ) → IsFit (length memory) access → line_of shape at ≢ line_of shape access.address
+    → get_or (memory_after access memory) at 0 ≡ get_or memory at 0
+other_line_after shape access memory at fit other = uncovered_after access memory at fit (λ low high. other (covered_line shape access at fit.aligned low high))
+
+-- ---- two memories that have the same bytes on the line of an access
+
+module _ (shape : Geometry) (access : Access) (m n : List ℕ) (size : length m ≡ length n) (fit : IsFit (length m) access) (same : SameLine shape (line_of shape access.address) m n) where
+  -- the access meets the same bytes
+  pub met_same : met_bytes access m ≡ met_bytes access n
+  met_same = same_bytes_from access.address (width_of access.op) m n size
+      (λ place below. same (access.address + place) (covered_line shape access (access.address + place) fit.aligned (omega arith) (omega arith)))
+
+  fit' : IsFit (length n) access
+  fit' = subst (λ (s : ℕ). IsFit s access) size fit
+
+  written_at : (at : ℕ) → access.address ≤ at → at < access.address + width_of access.op → get_or (memory_after access m) at 0 ≡ get_or (memory_after access n) at 0
+  written_at at low high =
+      let place : ℕ = at - access.address in let there : access.address + (at - access.address) ≡ at = omega arith in
+      let in_m = new_size access m fit in let in_n = new_size access n fit' in
+      subst (λ (a : ℕ). get_or (memory_after access m) a 0 ≡ get_or (memory_after access n) a 0) there
+      (get_or-with_bytes_at access.address (access_bytes access.op access.operand (met_bytes access m)) m (at - access.address) (let w = fit.within in omega arith) (omega arith)
+      ∙ ap (λ (bytes : List ℕ). get_or (access_bytes access.op access.operand bytes) (at - access.address) 0) met_same
+      ∙ sym (get_or-with_bytes_at access.address (access_bytes access.op access.operand (met_bytes access n)) n (at - access.address) (let w = fit'.within in omega arith) (omega arith)))
+
+  -- and leaves the same byte wherever they had the same
+  pub after_same : (at : ℕ) → get_or m at 0 ≡ get_or n at 0 → get_or (memory_after access m) at 0 ≡ get_or (memory_after access n) at 0
+  after_same at before = dite (dec_le access.address at)
+      (λ low. dite (dec_le (access.address + width_of access.op) at)
+      (λ past. uncovered_after access m at fit (λ l h. absurd (omega arith)) ∙ before ∙ sym (uncovered_after access n at fit' (λ l h. absurd (omega arith))))
+      (λ within. written_at at low (omega arith)))
+      (λ under. uncovered_after access m at fit (λ l h. absurd (omega arith)) ∙ before ∙ sym (uncovered_after access n at fit' (λ l h. absurd (omega arith))))
