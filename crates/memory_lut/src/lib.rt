@@ -1,0 +1,12 @@
+//! Shared memory, with the owner and the requests of each line.
+#![tactic(auto)]
+
+mod memory;
+mod owners;
+mod requests;
+mod words;
+
+pub use memory::SharedMemory;
+
+#[cfg(test)]
+mod tests;
