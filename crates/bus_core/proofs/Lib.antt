@@ -1,0 +1,4 @@
+pub mod Records
+pub mod Starts
+pub mod Posts
+pub mod Fills

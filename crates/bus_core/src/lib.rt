@@ -1,0 +1,9 @@
+//! The bus: shared memory, whose slot it is, and the actions of the slots.
+#![tactic(auto)]
+
+mod bus;
+
+pub use bus::Bus;
+
+#[cfg(test)]
+mod tests;
