@@ -1,0 +1,315 @@
+-- What a state stands for after each part of an instruction.
+use Rattle.std.proofs.Common.{◌≡◌, ◌≢◌, ◌⊎◌, ℕ, ◌+◌, ◌*◌, ◌/◌, ◌<◌, ◌≤◌, ◌==◌, List, All, length, get_or, Option, Some, None, Bool, true, false, if◌then◌else◌, refl, sym, ap, ◌∙◌, subst, inl, inr, arith}
+use Rattle.pmsi_model.specs.declared.job.Geometry.{Geometry}
+use Rattle.pmsi_model.specs.declared.Access.{Access}
+use Rattle.pmsi_model.specs.declared.Halt.{Halt}
+use Rattle.pmsi_model.specs.declared.Halt.TheVariants.{FetchRange}
+use Rattle.pmsi_model.specs.Instruction.{instr_of}
+use Rattle.std.specs.Prelude.{slice_get}
+use Rattle.pmsi_model.specs.declared.Kind.{Kind}
+use Rattle.pmsi_model.specs.declared.Kind.TheVariants.{Read, Write}
+use Rattle.pmsi_model.specs.declared.Mode.{Mode}
+use Rattle.pmsi_model.specs.declared.Mode.TheVariants.{Shared, Modified}
+use Rattle.pmsi_model.specs.declared.Status.TheVariants.{Halted}
+use Rattle.pmsi_model.specs.declared.Want.{Want}
+use Rattle.pmsi_model.specs.Words.{number_of}
+use Rattle.pmsi_model.specs.Geometry.{line_of}
+use Rattle.pmsi_model.specs.Access.{access_value, kind_of}
+use Rattle.pmsi_model.specs.Job.{JobValue, IsJob, text_of}
+use Rattle.pmsi_model.specs.Effect.{Effect, Next, Memory, Stop, effect_of, with_reg, next_pc}
+use Rattle.pmsi_model.specs.declared.instr.Instr.{Instr}
+use Rattle.pmsi_model.specs.Machine.{CoreState, mode_of}
+use Rattle.pmsi_model.specs.Phase.{Context, met_bytes, memory_after, retired_with, evicted, drop_shared, victim_of, append_victim, missed, after_effect, accessed, is_permitted, permits, touched_line, can_run, instruction, effect_at, effect_of_word, effect_of_fetch}
+use Rattle.pmsi_model.proofs.Held.{mode_without, mode_to_front}
+use Rattle.cache_array.specs.declared.line.CachedLine.{CachedLine}
+use Rattle.cache_array.specs.Cache.{CacheValue, held_of, words_of, word_place, others, with_word, touched}
+use Rattle.cache_array.proofs.Lines.{held_of-others, held_of-with_word, held_of-touched, words_of-others, words_of-with_word, words_of-touched}
+use Rattle.core_unit.specs.declared.state.State.{State}
+use Rattle.pmsi_model.specs.Parts.{word_at}
+use Rattle.core_unit.specs.State.{core_of, with_lines, lines_after, lines_with, met_in, performed, gone_for, lines_without, with_room, wanting}
+use Rattle.rv_exec.specs.Effects.{IsAccessTo}
+use Rattle.rv_exec.specs.Accesses.{bytes_after, covered}
+use Rattle.core_unit.specs.Stands.{with_memory, IsWantOf, CopiesAgree, Carries, StandsFor}
+use Rattle.coherence_laws.proofs.ApartBytes.{IsFit, lane_fits, length-memory_after, memory_after_below, read_after}
+use Rattle.coherence_laws.proofs.ApartEffects.{whole_words}
+use Rattle.core_unit.proofs.Copies.{covered_is, word_at-after, place_of_word, place_below, copies_same, copies_written, copies_dropped}
+use Rattle.core_unit.proofs.Words.{some_words}
+
+pub either : {A B C : Type 0} → (A → C) → (B → C) → A ⊎ B → C
+either f g (inl a) = f a
+either f g (inr b) = g b
+
+owner_mode : (mode : Option Mode) → permits Write mode ≡ true → mode ≡ Some Modified
+owner_mode None granted = grind arith
+owner_mode (Some Shared) granted = grind arith
+owner_mode (Some Modified) granted = refl
+
+-- ---- what leaves memory alone
+
+pub goes_on : (job : JobValue) (c : ℕ) (memory : List ℕ) (v : State) (slot pc : ℕ) (regs : List ℕ) → Carries job c memory v →
+    StandsFor job c (after_effect job.shape slot (Next regs pc) (with_memory memory v)) (record v { regs = regs; pc = pc; retired = v.retired + 1 })
+goes_on job c memory v slot pc regs s = record {
+  carries = record {
+    within = s.within;
+    below = s.below;
+    number = s.number;
+    shape = s.shape;
+    cache = s.cache;
+    cores = s.cores;
+    text = s.text;
+    bytes = s.bytes;
+    small = s.small;
+    agree = s.agree;
+    want = s.want;
+  };
+  core = refl;
+}
+
+pub stops : (job : JobValue) (c : ℕ) (memory : List ℕ) (v : State) (slot : ℕ) (halt : Halt) → Carries job c memory v →
+    StandsFor job c (after_effect job.shape slot (Stop halt) (with_memory memory v)) (record v { status = Halted halt })
+stops job c memory v slot halt s = record {
+  carries = record {
+    within = s.within;
+    below = s.below;
+    number = s.number;
+    shape = s.shape;
+    cache = s.cache;
+    cores = s.cores;
+    text = s.text;
+    bytes = s.bytes;
+    small = s.small;
+    agree = s.agree;
+    want = s.want;
+  };
+  core = refl;
+}
+
+-- ---- an access that is done
+
+-- the word of a held line at an address is that of memory
+held_word : (job : JobValue) (c : ℕ) (memory : List ℕ) (v : State) (address : ℕ) → Carries job c memory v → mode_of (line_of job.shape address) (held_of v.cache.lines) ≢ None →
+    get_or (words_of (line_of job.shape address) v.cache.lines) (word_place job.shape address) 0 ≡ word_at memory (address / 4)
+held_word job c memory v address s held = let some = some_words job.shape s.within.shape in
+    s.agree.words (line_of job.shape address) (word_place job.shape address) (place_below address job.shape.line_words some) held
+    ∙ ap (word_at memory) (place_of_word address job.shape.line_words some)
+
+-- the word of an address below the size is in memory
+inside : (job : JobValue) (c : ℕ) (memory : List ℕ) (v : State) (address : ℕ) → Carries job c memory v → address < job.shape.memory → 4 * (address / 4) + 4 ≤ length memory
+inside job c memory v address s below = let w = whole_words job.shape.memory job.shape.line_words s.within.shape.memory in let b = s.bytes in omega arith
+
+-- the state with other lines, registers, want and memory still carries the job
+pub rebuilt : (job : JobValue) (c : ℕ) (memory memory' : List ℕ) (v v' : State) → Carries job c memory v → v'.number ≡ v.number → v'.shape ≡ v.shape → v'.cache.shape ≡ v.cache.shape → v'.pending.cores ≡ v.pending.cores →
+    v'.text ≡ v.text → length memory' ≡ length memory → All (λ byte. byte < 256) memory' → CopiesAgree job memory' v'.cache.lines → ((want : Want) → v'.pending.want ≡ Some want → IsWantOf job want) → Carries job c memory' v'
+rebuilt job c memory memory' v v' s number shape cache cores text bytes small agree want = record {
+  within = s.within;
+  below = s.below;
+  number = number ∙ s.number;
+  shape = shape ∙ s.shape;
+  cache = cache ∙ s.cache;
+  cores = cores ∙ s.cores;
+  text = text ∙ s.text;
+  bytes = bytes ∙ s.bytes;
+  small = small;
+  agree = agree;
+  want = want;
+}
+
+lines_held : (kind : Kind) (line place word : ℕ) (lines : List CachedLine) → held_of (lines_after kind line place word lines) ≡ held_of lines
+lines_held Read line place word lines = refl
+lines_held Write line place word lines = held_of-with_word line place word lines
+
+-- an access changes no line's mode
+pub performed_held : (access : Access) (v : State) → held_of (performed access v).cache.lines ≡ held_of v.cache.lines
+performed_held access v = lines_held (kind_of access.op) (line_of v.cache.shape access.address) (word_place v.cache.shape access.address) (number_of (bytes_after access (met_in access v.cache))) v.cache.lines
+
+pub granted_held : (kind : Kind) (mode : Option Mode) → permits kind mode ≡ true → mode ≢ None
+granted_held Read None granted is = absurd (grind arith)
+granted_held Read (Some mode) granted is = absurd (grind arith)
+granted_held Write None granted is = absurd (grind arith)
+granted_held Write (Some mode) granted is = absurd (grind arith)
+
+-- copies agree after an access with permission
+access_agree : (job : JobValue) (c : ℕ) (memory : List ℕ) (v : State) (access : Access) (kind : Kind) → kind_of access.op ≡ kind → Carries job c memory v → IsAccessTo job.shape.memory access →
+    permits kind (mode_of (line_of job.shape access.address) (held_of v.cache.lines)) ≡ true →
+    CopiesAgree job (memory_after access memory) (lines_after kind (line_of job.shape access.address) (word_place job.shape access.address) (number_of (bytes_after access (word_at memory (access.address / 4)))) v.cache.lines)
+access_agree job c memory v access Read is s a granted =
+    let fit : IsFit (length memory) access = record { aligned = a.aligned; within = (let i = inside job c memory v access.address s a.within in omega (arith, lane_fits access.op access.address a.aligned)) } in
+    subst (λ (m : List ℕ). CopiesAgree job m v.cache.lines) (sym (read_after access memory fit is)) s.agree
+access_agree job c memory v access Write is s a granted =
+    let some = some_words job.shape s.within.shape in let line : ℕ = line_of job.shape access.address in let place : ℕ = word_place job.shape access.address in
+    let new : ℕ = number_of (bytes_after access (word_at memory (access.address / 4))) in
+    copies_written job.shape.line_words some memory (memory_after access memory) (λ l. mode_of l (held_of v.cache.lines)) (λ l. mode_of l (held_of (with_word line place new v.cache.lines)))
+    (λ l. words_of l v.cache.lines) (λ l. words_of l (with_word line place new v.cache.lines)) line place new (place_below access.address job.shape.line_words some)
+    (owner_mode (mode_of line (held_of v.cache.lines)) granted) (length-memory_after access memory)
+    (λ l. ap (mode_of l) (held_of-with_word line place new v.cache.lines))
+    (λ l. words_of-with_word line l place new v.cache.lines)
+    (λ i below. subst (λ (n : ℕ). word_at (memory_after access memory) i ≡ (if i == n then new else word_at memory i)) (sym (place_of_word access.address job.shape.line_words some))
+    (word_at-after access memory a.aligned s.small (inside job c memory v access.address s a.within) i below))
+    s.agree
+
+-- what a state stands for once an access with permission is done
+pub performs : (job : JobValue) (c : ℕ) (memory : List ℕ) (v : State) (access : Access) → Carries job c memory v → IsAccessTo job.shape.memory access →
+    permits (kind_of access.op) (mode_of (line_of job.shape access.address) (held_of v.cache.lines)) ≡ true →
+    StandsFor job c (record { core = retired_with access (met_bytes access memory) (core_of v); memory = memory_after access memory }) (performed access v)
+performs job c memory v access s a granted =
+    let line : ℕ = line_of job.shape access.address in let within = inside job c memory v access.address s a.within in
+    let word : met_in access v.cache ≡ word_at memory (access.address / 4) =
+    ap (λ (g : Geometry). get_or (words_of (line_of g access.address) v.cache.lines) (word_place g access.address) 0) s.cache
+    ∙ held_word job c memory v access.address s (granted_held (kind_of access.op) (mode_of line (held_of v.cache.lines)) granted) in
+    let met : met_bytes access memory ≡ covered access (met_in access v.cache) = sym (ap (covered access) word ∙ covered_is access memory a.aligned s.small within) in
+    let agree : CopiesAgree job (memory_after access memory) (lines_with access v.cache) =
+    subst (λ (g : Geometry). CopiesAgree job (memory_after access memory) (lines_after (kind_of access.op) (line_of g access.address) (word_place g access.address) (number_of (bytes_after access (met_in access v.cache))) v.cache.lines)) (sym s.cache)
+    (subst (λ (w : ℕ). CopiesAgree job (memory_after access memory) (lines_after (kind_of access.op) line (word_place job.shape access.address) (number_of (bytes_after access w)) v.cache.lines)) (sym word)
+    (access_agree job c memory v access (kind_of access.op) refl s a granted)) in record {
+      carries = rebuilt job c memory (memory_after access memory) v (performed access v) s refl refl refl refl refl (length-memory_after access memory) (memory_after_below access memory s.small) agree s.want;
+      core = ap (λ (bytes : List ℕ). let k : CoreState = core_of v in let j : CoreState = record k { regs = with_reg k.regs access.rd (access_value access.op bytes); pc = next_pc k.pc; retired = k.retired + 1 } in j) met
+          ∙ ap (λ (h : List (ℕ × Mode)). let k : CoreState = core_of (performed access v) in let j : CoreState = record k { held = h } in j) (sym (performed_held access v));
+    }
+
+-- a line that goes to the front changes no mode and no word
+touched_mode : (l line : ℕ) (mode : Option Mode) (held : List (ℕ × Mode)) → mode_of line held ≡ mode → mode_of l (touched_line mode line held) ≡ mode_of l held
+touched_mode l line None held is = refl
+touched_mode l line (Some mode) held is = grind (arith, mode_to_front l line mode held)
+
+touched_agree : (job : JobValue) (memory : List ℕ) (line : ℕ) (lines : List CachedLine) → IsJob job → CopiesAgree job memory lines → CopiesAgree job memory (touched line lines)
+touched_agree job memory line lines is agree =
+    copies_same job.shape.line_words (some_words job.shape is.shape) memory (λ l. mode_of l (held_of lines)) (λ l. mode_of l (held_of (touched line lines))) (λ l. words_of l lines) (λ l. words_of l (touched line lines))
+    (λ l. ap (mode_of l) (held_of-touched line lines) ∙ touched_mode l line (mode_of line (held_of lines)) (held_of lines) refl)
+    (λ l. words_of-touched line l lines) agree
+
+-- ---- an access with permission
+
+-- the state after an access with permission
+abbrev hit_state : ℕ → Access → State → State
+hit_state line access v = with_lines (touched line (performed access v).cache.lines) (performed access v)
+
+granted_done : (shape : Geometry) (slot : ℕ) (access : Access) (x : Context) → is_permitted shape access x.core ≡ true → after_effect shape slot (Memory access) x ≡ accessed shape access x
+granted_done shape slot access x granted = grind arith
+
+-- the core's line goes to the front in both
+hit_core : (line : ℕ) (access : Access) (v : State) (k : CoreState) → k ≡ core_of (performed access v) → record k { held = touched_line (mode_of line k.held) line k.held } ≡ core_of (hit_state line access v)
+hit_core line access v k same = ap (λ (j : CoreState). let i : CoreState = record j { held = touched_line (mode_of line j.held) line j.held } in i) same
+    ∙ ap (λ (h : List (ℕ × Mode)). let j : CoreState = core_of (performed access v) in let i : CoreState = record j { held = h } in i) (sym (held_of-touched line (performed access v).cache.lines))
+
+pub hits : (job : JobValue) (c : ℕ) (memory : List ℕ) (v : State) (slot : ℕ) (access : Access) → Carries job c memory v → IsAccessTo job.shape.memory access → is_permitted job.shape access (core_of v) ≡ true →
+    StandsFor job c (after_effect job.shape slot (Memory access) (with_memory memory v)) (hit_state (line_of job.shape access.address) access v)
+hits job c memory v slot access s is granted = let line : ℕ = line_of job.shape access.address in let d = performs job c memory v access s is granted in
+    subst (λ y. StandsFor job c y (hit_state line access v)) (sym (granted_done job.shape slot access (with_memory memory v) granted)) (record {
+      carries = rebuilt job c (memory_after access memory) (memory_after access memory) (performed access v) (hit_state line access v) d.carries refl refl refl refl refl refl d.carries.small
+          (touched_agree job (memory_after access memory) line (performed access v).cache.lines s.within d.carries.agree) d.carries.want;
+      core = hit_core line access v (retired_with access (met_bytes access memory) (core_of v)) d.core;
+    })
+
+-- ---- a miss
+
+dropped_held : (gone : Option (ℕ × Mode)) (lines : List CachedLine) → held_of (lines_without gone lines) ≡ drop_shared gone (held_of lines)
+dropped_held None lines = refl
+dropped_held (Some (line, Shared)) lines = held_of-others line lines
+dropped_held (Some (line, Modified)) lines = refl
+
+dropped_agree : (job : JobValue) (memory : List ℕ) (gone : Option (ℕ × Mode)) (lines : List CachedLine) → IsJob job → CopiesAgree job memory lines → CopiesAgree job memory (lines_without gone lines)
+dropped_agree job memory None lines is agree = agree
+dropped_agree job memory (Some (line, Shared)) lines is agree =
+    copies_dropped job.shape.line_words (some_words job.shape is.shape) memory (λ l. mode_of l (held_of lines)) (λ l. mode_of l (held_of (others line lines))) (λ l. words_of l lines) (λ l. words_of l (others line lines)) line
+    (λ l. ap (mode_of l) (held_of-others line lines) ∙ mode_without l line (held_of lines))
+    (λ l other. words_of-others line l lines ∙ grind arith) agree
+dropped_agree job memory (Some (line, Modified)) lines is agree = agree
+
+denied_missed : (shape : Geometry) (slot : ℕ) (access : Access) (x : Context) → is_permitted shape access x.core ≡ false → after_effect shape slot (Memory access) x ≡ record x { core = missed shape slot access x.core }
+denied_missed shape slot access x denied = grind arith
+
+-- the core that misses is that of the state that does
+missed_core : (slot : ℕ) (shape : Geometry) (access : Access) (v : State) → v.cache.shape ≡ shape → v.slot ≡ slot → missed shape slot access (core_of v) ≡ core_of (wanting access (line_of shape access.address) v)
+missed_core slot shape access v cache now =
+    let line : ℕ = line_of shape access.address in
+    let k : CoreState = core_of v in
+    ap (λ (g : Geometry). let gone : Option (ℕ × Mode) = evicted g line k.held in let j : CoreState = record k {
+      held = drop_shared gone k.held;
+      want = Some (record { line = line; kind = kind_of access.op; issue = slot; post = None; victim = victim_of gone; access = access });
+      write_backs = append_victim (victim_of gone) k.write_backs;
+    } in j) (sym cache)
+    ∙ ap (λ (h : List (ℕ × Mode)). let gone : Option (ℕ × Mode) = gone_for line v in let j : CoreState = record k {
+      held = h;
+      want = Some (record { line = line; kind = kind_of access.op; issue = slot; post = None; victim = victim_of gone; access = access });
+      write_backs = append_victim (victim_of gone) k.write_backs;
+    } in j) (sym (dropped_held (gone_for line v) v.cache.lines))
+    ∙ ap (λ (s : ℕ). let gone : Option (ℕ × Mode) = gone_for line v in let j : CoreState = record (core_of (with_room line v)) {
+      want = Some (record { line = line; kind = kind_of access.op; issue = s; post = None; victim = victim_of gone; access = access });
+    } in j) (sym now)
+
+abbrev IfWanted : JobValue → Option Want → Type 0
+IfWanted job None = Unit {0}
+IfWanted job (Some want) = IsWantOf job want
+
+if_wanted : (job : JobValue) (want : Want) → IfWanted job (Some want) → IsWantOf job want
+if_wanted job want is = is
+
+new_want : (job : JobValue) (access : Access) (v : State) (want : Want) → IsAccessTo job.shape.memory access → (wanting access (line_of job.shape access.address) v).pending.want ≡ Some want → IsWantOf job want
+new_want job access v want is wants = let P : Option Want → Type 0 = λ o. IfWanted job o in if_wanted job want (subst P wants (record { access = is; line = refl; kind = refl }))
+
+pub misses : (job : JobValue) (c : ℕ) (memory : List ℕ) (v : State) (slot : ℕ) (access : Access) → Carries job c memory v → v.slot ≡ slot → IsAccessTo job.shape.memory access →
+    is_permitted job.shape access (core_of v) ≡ false → StandsFor job c (after_effect job.shape slot (Memory access) (with_memory memory v)) (wanting access (line_of job.shape access.address) v)
+misses job c memory v slot access s now is denied = let line : ℕ = line_of job.shape access.address in
+    subst (λ y. StandsFor job c y (wanting access line v)) (sym (denied_missed job.shape slot access (with_memory memory v) denied)) (record {
+      carries = rebuilt job c memory memory v (wanting access line v) s refl refl refl refl refl refl s.small
+          (dropped_agree job memory (gone_for line v) v.cache.lines s.within s.agree)
+          (λ want wants. new_want job access v want is wants);
+      core = missed_core slot job.shape access v s.cache now;
+    })
+
+-- ---- as the code has them
+
+within_job : (job : JobValue) (c : ℕ) (memory : List ℕ) (v : State) (access : Access) → Carries job c memory v → IsAccessTo v.shape.memory access → IsAccessTo job.shape.memory access
+within_job job c memory v access s is = subst (λ (g : Geometry). IsAccessTo g.memory access) s.shape is
+
+hit_is : (line : ℕ) (access : Access) (v u : State) (cache : CacheValue) → u ≡ performed access v → cache ≡ record u.cache { lines = touched line u.cache.lines } → record u { cache = cache } ≡ hit_state line access v
+hit_is line access v u cache done front = ap (λ (c : CacheValue). let w : State = record u { cache = c } in w) front ∙ ap (λ (w : State). with_lines (touched line w.cache.lines) w) done
+
+pub access_hits : (job : JobValue) (c : ℕ) (memory : List ℕ) (v u : State) (cache : CacheValue) (line : ℕ) (access : Access) → Carries job c memory v → IsAccessTo v.shape.memory access → line ≡ line_of v.shape access.address →
+    permits (kind_of access.op) (mode_of line (held_of v.cache.lines)) ≡ true → u ≡ performed access v → cache ≡ record u.cache { lines = touched line u.cache.lines } →
+    StandsFor job c (after_effect job.shape v.slot (Memory access) (with_memory memory v)) (record u { cache = cache })
+access_hits job c memory v u cache line access s is at granted done front =
+    let same : line ≡ line_of job.shape access.address = at ∙ ap (λ (g : Geometry). line_of g access.address) s.shape in
+    subst (StandsFor job c (after_effect job.shape v.slot (Memory access) (with_memory memory v))) (sym (hit_is line access v u cache done front ∙ ap (λ (l : ℕ). hit_state l access v) same))
+    (hits job c memory v v.slot access s (within_job job c memory v access s is) (sym (ap (λ (l : ℕ). permits (kind_of access.op) (mode_of l (held_of v.cache.lines))) same) ∙ granted))
+
+pub access_misses : (job : JobValue) (c : ℕ) (memory : List ℕ) (v u : State) (line : ℕ) (access : Access) → Carries job c memory v → IsAccessTo v.shape.memory access → line ≡ line_of v.shape access.address →
+    permits (kind_of access.op) (mode_of line (held_of v.cache.lines)) ≡ false → u ≡ wanting access line v → StandsFor job c (after_effect job.shape v.slot (Memory access) (with_memory memory v)) u
+access_misses job c memory v u line access s is at denied done =
+    let same : line ≡ line_of job.shape access.address = at ∙ ap (λ (g : Geometry). line_of g access.address) s.shape in
+    subst (StandsFor job c (after_effect job.shape v.slot (Memory access) (with_memory memory v))) (sym (done ∙ ap (λ (l : ℕ). wanting access l v) same))
+    (misses job c memory v v.slot access s refl (within_job job c memory v access s is) (sym (ap (λ (l : ℕ). permits (kind_of access.op) (mode_of l (held_of v.cache.lines))) same) ∙ denied))
+
+-- ---- an instruction
+
+-- one that asks for an access
+pub asks_memory : (job : JobValue) (c : ℕ) (memory : List ℕ) (v u : State) (word : ℕ) (instr : Instr) (regs : List ℕ) (access : Access) → Carries job c memory v → instr_of word ≡ Some instr →
+    Memory access ≡ effect_of instr v.regs v.pc v.shape.memory → regs ≡ v.regs →
+    (Carries job c memory (record v { regs = regs }) → StandsFor job c (after_effect job.shape v.slot (Memory access) (with_memory memory (record v { regs = regs }))) u) →
+    StandsFor job c (after_effect job.shape v.slot (effect_of_word job.shape word (core_of v) (instr_of word)) (with_memory memory v)) u
+asks_memory job c memory v u word instr regs access s reads asks kept after =
+    let done : StandsFor job c (after_effect job.shape v.slot (Memory access) (with_memory memory v)) u =
+    subst (λ (rs : List ℕ). Carries job c memory (record v { regs = rs }) → StandsFor job c (after_effect job.shape v.slot (Memory access) (with_memory memory (record v { regs = rs }))) u) kept after s in
+    subst (λ (e : Effect). StandsFor job c (after_effect job.shape v.slot e (with_memory memory v)) u)
+    (asks ∙ ap (λ (g : Geometry). effect_of instr v.regs v.pc g.memory) s.shape ∙ sym (ap (effect_of_word job.shape word (core_of v)) reads)) done
+
+runs_word : (shape : Geometry) (slot : ℕ) (text : List ℕ) (y : Context) (word : ℕ) → can_run y.core ≡ true → slice_get text (y.core.pc / 4) ≡ Some word →
+    instruction shape slot text y ≡ after_effect shape slot (effect_of_word shape word y.core (instr_of word)) y
+unfolding instruction
+runs_word shape slot text y word can is = ap (λ (b : Bool). if b then after_effect shape slot (effect_at shape text y.core) y else y) can ∙ ap (λ (o : Option ℕ). after_effect shape slot (effect_of_fetch shape y.core o) y) is
+
+runs_off : (shape : Geometry) (slot : ℕ) (text : List ℕ) (y : Context) → can_run y.core ≡ true → slice_get text (y.core.pc / 4) ≡ None → instruction shape slot text y ≡ after_effect shape slot (Stop (FetchRange y.core.pc)) y
+unfolding instruction
+runs_off shape slot text y can is = ap (λ (b : Bool). if b then after_effect shape slot (effect_at shape text y.core) y else y) can ∙ ap (λ (o : Option ℕ). after_effect shape slot (effect_of_fetch shape y.core o) y) is
+
+pub takes_word : (job : JobValue) (c : ℕ) (memory : List ℕ) (v u : State) (word : ℕ) → Carries job c memory v → can_run (core_of v) ≡ true → slice_get v.text (v.pc / 4) ≡ Some word →
+    StandsFor job c (after_effect job.shape v.slot (effect_of_word job.shape word (core_of v) (instr_of word)) (with_memory memory v)) u → StandsFor job c (instruction job.shape v.slot (text_of job c) (with_memory memory v)) u
+takes_word job c memory v u word s can is stands =
+    subst (λ (y : Context). StandsFor job c y u) (sym (runs_word job.shape v.slot (text_of job c) (with_memory memory v) word can (ap (λ (t : List ℕ). slice_get t (v.pc / 4)) (sym s.text) ∙ is))) stands
+
+pub runs_past : (job : JobValue) (c : ℕ) (memory : List ℕ) (v : State) → Carries job c memory v → can_run (core_of v) ≡ true → slice_get v.text (v.pc / 4) ≡ None →
+    StandsFor job c (instruction job.shape v.slot (text_of job c) (with_memory memory v)) (record v { status = Halted (FetchRange v.pc) })
+runs_past job c memory v s can is =
+    subst (λ (y : Context). StandsFor job c y (record v { status = Halted (FetchRange v.pc) }))
+    (sym (runs_off job.shape v.slot (text_of job c) (with_memory memory v) can (ap (λ (t : List ℕ). slice_get t (v.pc / 4)) (sym s.text) ∙ is)))
+    (stops job c memory v v.slot (FetchRange v.pc) s)

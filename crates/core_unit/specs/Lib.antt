@@ -1,0 +1,9 @@
+pub mod Rows
+pub mod Lines
+pub mod Copies
+pub mod State
+pub mod Stands
+pub mod Parts
+pub mod Phases
+pub mod Notes
+pub mod Acts

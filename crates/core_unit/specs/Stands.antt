@@ -1,0 +1,87 @@
+-- A state stands for a core of the written machine, and the memory that it sees.
+use Rattle.std.specs.Prelude.{◌≡◌, ◌≢◌, ◌⊎◌, ℕ, ◌+◌, ◌%◌, ◌^◌, ◌<◌, List, length, Some, None, true}
+use Rattle.std.specs.List.{All}
+use Rattle.pmsi_model.specs.declared.Kind.TheVariants.{Write}
+use Rattle.pmsi_model.specs.declared.Want.{Want}
+use Rattle.pmsi_model.specs.Geometry.{IsGeometry, line_of}
+use Rattle.pmsi_model.specs.Access.{kind_of, width_of}
+use Rattle.pmsi_model.specs.Job.{JobValue, IsJob, text_of}
+use Rattle.pmsi_model.specs.Coherent.{HoldsEachOnce}
+use Rattle.pmsi_model.specs.Machine.{mode_of, has_line}
+use Rattle.pmsi_model.specs.Phase.{Context, set_lines}
+use Rattle.cache_array.specs.declared.line.CachedLine.{CachedLine}
+use Rattle.cache_array.specs.Cache.{Holds as IsHeld, held_of, words_of}
+use Rattle.rv_exec.specs.Effects.{IsAccessTo}
+use Rattle.core_unit.specs.declared.state.State.{State}
+use Rattle.core_unit.specs.Copies.{AreCopies}
+use Rattle.core_unit.specs.State.{core_of}
+
+-- a want for an access to its line
+pub record IsWantOf (job : JobValue) (want : Want) : Type 0 where
+  pub access : IsAccessTo job.shape.memory want.access
+  pub line : want.line ≡ line_of job.shape want.access.address
+  pub kind : want.kind ≡ kind_of want.access.op
+
+-- cached lines are copies of a job's flat memory
+abbrev pub CopiesAgree : JobValue → List ℕ → List CachedLine → Type 0
+CopiesAgree job memory lines = AreCopies job.shape.line_words memory (λ line. mode_of line (held_of lines)) (λ line. words_of line lines)
+
+-- a state has the number, the shape and the text of a core of a job, and copies of this flat memory
+pub record Carries (job : JobValue) (c : ℕ) (memory : List ℕ) (v : State) : Type 0 where
+  pub within : IsJob job
+  pub below : c < job.shape.cores
+  pub number : v.number ≡ c
+  pub shape : v.shape ≡ job.shape
+  pub cache : v.cache.shape ≡ job.shape
+  pub cores : v.pending.cores ≡ job.shape.cores
+  pub text : v.text ≡ text_of job c
+  pub bytes : length memory ≡ job.shape.memory
+  pub small : All (λ byte. byte < 256) memory
+  pub agree : CopiesAgree job memory v.cache.lines
+  pub want : (want : Want) → v.pending.want ≡ Some want → IsWantOf job want
+
+-- the core of a state, and a memory
+abbrev pub with_memory : List ℕ → State → Context
+with_memory memory v = record { core = core_of v; memory = memory }
+
+-- a state stands for a core and the memory that it sees
+pub record StandsFor (job : JobValue) (c : ℕ) (y : Context) (v : State) : Type 0 where
+  pub carries : Carries job c y.memory v
+  pub core : y.core ≡ core_of v
+
+-- the slot, the mark of its phase, the rows and what is known of other cores' requests stay
+pub record SameRun (old new : State) : Type 0 where
+  pub slot : new.slot ≡ old.slot
+  pub rows : new.rows ≡ old.rows
+  pub claimed : new.claimed ≡ old.claimed
+  pub phase_done : new.phase_done ≡ old.phase_done
+
+-- a state of some job can execute an instruction: no line is held twice, and there is room for a victim
+pub record CanExecute (v : State) : Type 0 where
+  pub job : JobValue
+  pub core : ℕ
+  pub memory : List ℕ
+  pub carries : Carries job core memory v
+  pub once : HoldsEachOnce (held_of v.cache.lines)
+  pub backs : length v.pending.write_backs < v.pending.cores
+  pub retires : v.retired + 1 < 2 ^ 64
+  pub wants_nothing : v.pending.want ≡ None
+
+-- the words of a wanted line can be taken: the line has room in the cache and, if it is written, among the lines to write
+-- back and the claimed ones
+pub record CanTake (want : Want) (words : List ℕ) (v : State) : Type 0 where
+  pub cache : v.cache.shape ≡ v.shape
+  pub count : length words ≡ v.shape.line_words
+  pub fits : IsHeld want.line v.cache.lines ⊎ (length (set_lines v.shape want.line (held_of v.cache.lines)) < v.shape.ways)
+  pub backs : want.kind ≡ Write → length v.pending.write_backs < v.pending.cores
+  pub unqueued : want.kind ≡ Write → has_line want.line v.pending.write_backs ≢ true
+  pub claims : want.kind ≡ Write → length v.claimed < 16
+
+-- a want can be served
+pub record CanServe (want : Want) (words : List ℕ) (v : State) : Type 0 where
+  pub takes : CanTake want words v
+  pub shape : IsGeometry v.shape
+  pub aligned : want.access.address % width_of want.access.op ≡ 0
+  pub retires : v.retired + 1 < 2 ^ 64
+  pub rows : length v.rows.rows < v.rows.room
+  pub wanted : v.pending.want ≢ None

@@ -1,0 +1,215 @@
+-- What the parts of a slot do to a core.
+use Rattle.std.specs.Prelude.{ℕ, ◌+◌, List, [], ◌∷◌, ◌++◌, not, ◌&&◌, slice_index, slice_set, Bool, false, Option, Some, None, if◌then◌else◌}
+use Rattle.std.specs.Option.{option_map}
+use Rattle.pmsi_model.specs.declared.job.Geometry.{Geometry}
+use Rattle.pmsi_model.specs.declared.Access.{Access}
+use Rattle.pmsi_model.specs.declared.Action.{Action}
+use Rattle.pmsi_model.specs.declared.Action.TheVariants.{Idle, Post, Fill, PostFill, Back}
+use Rattle.pmsi_model.specs.declared.Behind.{Behind}
+use Rattle.pmsi_model.specs.declared.Behind.TheVariants.{Nobody, Reads, Write as WriteBehind}
+use Rattle.pmsi_model.specs.declared.Kind.{Kind}
+use Rattle.pmsi_model.specs.declared.Kind.TheVariants.{Read, Write}
+use Rattle.pmsi_model.specs.declared.Mode.{Mode}
+use Rattle.pmsi_model.specs.declared.Mode.TheVariants.{Shared, Modified}
+use Rattle.pmsi_model.specs.declared.Name.{Name}
+use Rattle.pmsi_model.specs.declared.Row.{Row}
+use Rattle.pmsi_model.specs.declared.Turn.TheVariants.{Request as RequestTurn, WriteBack as WriteBackTurn}
+use Rattle.pmsi_model.specs.declared.Want.{Want}
+use Rattle.pmsi_model.specs.Geometry.{line_of}
+use Rattle.pmsi_model.specs.Words.{number_of}
+use Rattle.pmsi_model.specs.Access.{access_value, kind_of}
+use Rattle.rv_exec.specs.Accesses.{bytes_after, covered}
+use Rattle.pmsi_model.specs.Effect.{with_reg, next_pc}
+use Rattle.pmsi_model.specs.Machine.{CoreState, is_modified, is_write, mode_of, has_line, append_once}
+use Rattle.pmsi_model.specs.Phase.{evicted, victim_of, append_victim}
+use Rattle.pmsi_model.specs.Bus.{clear_victim, has_victim_for, kind_of_name, name_of, post_at}
+use Rattle.pmsi_model.specs.Shared.{SharedValue, line_in, fills_at_once as at_once}
+use Rattle.cache_array.specs.declared.line.CachedLine.{CachedLine}
+use Rattle.cache_array.specs.Cache.{CacheValue, held_of, words_of, word_place, others, with_word, with_line_mode, put_first}
+use Rattle.core_unit.specs.declared.state.State.{State}
+use Rattle.core_unit.specs.Lines.{without_line}
+
+-- what the machine has of a core
+abbrev pub core_of : State → CoreState
+core_of v = record {
+  regs = v.regs;
+  pc = v.pc;
+  status = v.status;
+  retired = v.retired;
+  held = held_of v.cache.lines;
+  want = v.pending.want;
+  write_backs = v.pending.write_backs;
+  turn = v.pending.turn;
+}
+
+-- the state with another want
+abbrev pub with_want : Option Want → State → State
+with_want want v = record v { pending = record v.pending { want = want } }
+
+-- the state with other cached lines
+abbrev pub with_lines : List CachedLine → State → State
+with_lines lines v = record v { cache = record v.cache { lines = lines } }
+
+-- ---- an access with permission
+
+-- only a write changes the word
+abbrev pub lines_after : Kind → ℕ → ℕ → ℕ → List CachedLine → List CachedLine
+lines_after Read line place word lines = lines
+lines_after Write line place word lines = with_word line place word lines
+
+-- the cached word that an access meets
+abbrev pub met_in : Access → CacheValue → ℕ
+met_in access cache = slice_index (words_of (line_of cache.shape access.address) cache.lines) (word_place cache.shape access.address)
+
+-- and the lines once it is done
+abbrev pub lines_with : Access → CacheValue → List CachedLine
+lines_with access cache =
+    lines_after (kind_of access.op) (line_of cache.shape access.address) (word_place cache.shape access.address) (number_of (bytes_after access (met_in access cache))) cache.lines
+
+-- an access that met this word gives its value, and its instruction retires
+abbrev pub retired_on : Access → ℕ → State → State
+retired_on access word v = record v {
+  regs = with_reg v.regs access.rd (access_value access.op (covered access word));
+  pc = next_pc v.pc;
+  retired = v.retired + 1;
+}
+
+-- the access is done on the cached line
+abbrev pub performed : Access → State → State
+performed access v = record (retired_on access (met_in access v.cache) v) { cache = record v.cache { lines = lines_with access v.cache } }
+
+-- ---- a miss
+
+-- the line that leaves the set
+abbrev pub gone_for : ℕ → State → Option (ℕ × Mode)
+gone_for line v = evicted v.cache.shape line (held_of v.cache.lines)
+
+-- a shared line leaves at once
+abbrev pub lines_without : Option (ℕ × Mode) → List CachedLine → List CachedLine
+lines_without None lines = lines
+lines_without (Some h) lines = if is_modified (Some h.1) then lines else others h.0 lines
+
+-- room is made for a line
+abbrev pub with_room : ℕ → State → State
+with_room line v =
+    record v {
+      cache = record v.cache { lines = lines_without (gone_for line v) v.cache.lines };
+      pending = record v.pending { write_backs = append_victim (victim_of (gone_for line v)) v.pending.write_backs };
+    }
+
+abbrev pub wanting : Access → ℕ → State → State
+wanting access line v = record (with_room line v) {
+  pending = record (with_room line v).pending {
+    want = Some (record { line = line; kind = kind_of access.op; issue = v.slot; post = None; victim = victim_of (gone_for line v); access = access });
+  };
+}
+
+-- ---- a request is served
+
+-- the word of a line that an access meets
+abbrev pub met_among : Geometry → Access → List ℕ → ℕ
+met_among shape access words = slice_index words (word_place shape access.address)
+
+-- and the words of the line once it is done
+abbrev pub words_with : Geometry → Access → List ℕ → List ℕ
+words_with shape access words = slice_set words (word_place shape access.address) (number_of (bytes_after access (met_among shape access words)))
+
+-- a write leaves the line modified, a read shared, unless a write is queued behind it
+abbrev pub lines_filled : Kind → Behind → ℕ → List ℕ → List CachedLine → List CachedLine
+lines_filled Read Nobody line words lines = put_first line Shared words lines
+lines_filled Read Reads line words lines = put_first line Shared words lines
+lines_filled Read WriteBehind line words lines = lines
+lines_filled Write behind line words lines = put_first line Modified words lines
+
+-- whoever owns the line now has to write it back, if requests are queued
+abbrev pub backs_filled : Kind → Behind → ℕ → List ℕ → List ℕ
+backs_filled Read behind line lines = lines
+backs_filled Write Nobody line lines = lines
+backs_filled Write Reads line lines = lines ++ line ∷ []
+backs_filled Write WriteBehind line lines = lines ++ line ∷ []
+
+abbrev pub claimed_filled : Kind → Behind → ℕ → List ℕ → List ℕ
+claimed_filled Read behind line lines = lines
+claimed_filled Write Nobody line lines = lines
+claimed_filled Write Reads line lines = lines
+claimed_filled Write WriteBehind line lines = append_once line lines
+
+-- the line comes into the cache as it is once the access is done
+abbrev pub with_filled : Want → List ℕ → Behind → State → State
+with_filled want words behind v = record v {
+  cache = record v.cache { lines = lines_filled want.kind behind want.line words v.cache.lines };
+  pending = record v.pending { write_backs = backs_filled want.kind behind want.line v.pending.write_backs };
+  claimed = claimed_filled want.kind behind want.line v.claimed;
+}
+
+abbrev pub row_for : Want → ℕ → State → Row
+row_for want post v = record { core = v.number; line = want.line; kind = want.kind; issue = want.issue; post = post; fill = v.slot }
+
+-- the want ends
+abbrev pub with_row : Row → State → State
+with_row row v = record v {
+  pending = record v.pending { want = None; turn = WriteBackTurn };
+  rows = record v.rows { rows = v.rows.rows ++ row ∷ [] };
+}
+
+abbrev pub served : Want → List ℕ → ℕ → Behind → State → State
+served want words post behind v =
+    with_row (row_for want post v) (with_filled want (words_with v.shape want.access words) behind (retired_on want.access (met_among v.shape want.access words) v))
+
+-- ---- a request is posted
+
+abbrev pub asked : State → State
+asked v = record v { pending = record v.pending { want = option_map (post_at v.slot) v.pending.want; turn = WriteBackTurn } }
+
+abbrev pub name_for : Want → State → Name
+name_for want v = name_of want.kind (mode_of want.line (held_of v.cache.lines))
+
+-- the request is the first of its line, and nobody owns the line
+abbrev pub fills_at_once : Want → SharedValue → State → Bool
+fills_at_once want m v = at_once v.number want.line (name_for want v) m
+
+abbrev pub posted_state : Want → SharedValue → State → State
+posted_state want m v = if fills_at_once want m v then served want (line_in m want.line) v.slot Nobody (asked v) else asked v
+
+abbrev pub posted_action : Want → SharedValue → State → Action
+posted_action want m v = if fills_at_once want m v then PostFill (name_for want v) want.line else Post (name_for want v) want.line
+
+-- ---- a write-back
+
+-- a line that is to be written back stays shared where no write is queued for it and it isn't the victim
+abbrev pub keeps : ℕ → State → Bool
+keeps line v = not (has_line line v.claimed) && not (has_victim_for line v.pending.want)
+
+-- the first line is written back
+abbrev pub backed : ℕ → List ℕ → State → State
+backed line lines v = record v {
+  cache = record v.cache { lines = if keeps line v then with_line_mode line Shared v.cache.lines else others line v.cache.lines };
+  pending = record v.pending { want = option_map (clear_victim line) v.pending.want; write_backs = lines; turn = RequestTurn };
+  claimed = without_line line v.claimed;
+}
+
+-- ---- the note of another core's action
+
+-- the line is to be written back
+abbrev pub with_demanded : ℕ → State → State
+with_demanded line v = record v { pending = record v.pending { write_backs = append_once line v.pending.write_backs } }
+
+-- a write invalidates a shared copy, and an owner has the line to write back
+abbrev pub noted_in : Kind → ℕ → Option Mode → State → State
+noted_in kind line None v = v
+noted_in kind line (Some Shared) v = if is_write kind then with_lines (others line v.cache.lines) v else v
+noted_in kind line (Some Modified) v = record (with_demanded line v) { claimed = if is_write kind then append_once line v.claimed else v.claimed }
+
+abbrev pub noted : Kind → ℕ → State → State
+noted kind line v = noted_in kind line (mode_of line (held_of v.cache.lines)) v
+
+abbrev pub snooped : Action → State → State
+snooped Idle v = v
+snooped (Post name line) v = noted (kind_of_name name) line v
+snooped (Fill line) v = v
+snooped (PostFill name line) v = noted (kind_of_name name) line v
+snooped (Back line kept) v = v
+
+-- the state when the slot is over
+abbrev pub stepped : State → State
+stepped v = record v { slot = v.slot + 1; phase_done = false }

@@ -1,0 +1,216 @@
+//! A core's action in an own slot.
+ghost use Rattle.std.specs.Prelude.{◌≡◌, ◌≢◌, ℕ, ◌+◌, ◌%◌, ◌^◌, ◌<◌, ◌∷◌, List, length, Some, None, true, option_map};
+ghost use Rattle.arrayvec.specs.ArrayVec.{array_vec_len};
+ghost use Rattle.pmsi_model.specs.Access.{width_of};
+ghost use Rattle.pmsi_model.specs.declared.Action.TheVariants.{Fill};
+ghost use Rattle.pmsi_model.specs.declared.Want.{Want};
+ghost use Rattle.pmsi_model.specs.Bus.{clear_victim};
+ghost use Rattle.pmsi_model.specs.Coherent.{victim_in};
+ghost use Rattle.pmsi_model.specs.Geometry.{IsGeometry};
+ghost use Rattle.pmsi_model.specs.Job.{JobValue};
+ghost use Rattle.pmsi_model.specs.Machine.{removed};
+ghost use Rattle.pmsi_model.specs.Parts.{IsBusPart};
+ghost use Rattle.pmsi_model.specs.Shared.{CanFill, CanPost, IsOwnSlot, behind_in, line_in, side_filled, side_posted};
+ghost use Rattle.core_unit.specs.State.{asked, fills_at_once, keeps, met_among, name_for, posted_action, posted_state, retired_on, served, with_filled, with_want, words_with};
+ghost use Rattle.core_unit.specs.Stands.{CanServe, CanTake};
+ghost use Rattle.core_unit.specs.Parts.{CanAct, IsPartAfter};
+ghost use Rattle.core_unit.specs.Acts.{CanBack, CanRequest, IsActed, IsBacked, IsRequested};
+
+use crate::state::State;
+use arrayvec::ArrayVec;
+use pend_buffers::Choice;
+use pmsi_model::{Access, Action, Behind, BusPort, Kind, Mode, Name, Posted, Row, Turn, Want};
+use rv_exec::apply;
+
+impl State {
+    /// Does the missed access on the words of its line, and retires its instruction.
+    fn finish_access(&mut self, access: Access, words: &mut ArrayVec<u32, 16>)
+        requires shape { IsGeometry self.old.shape }
+        requires count { array_vec_len words.old ≡ self.old.shape.line_words }
+        requires aligned { access.address % width_of access.op ≡ 0 }
+        requires retires { self.old.retired + 1 < 2 ^ 64 }
+        ensures words { words.new.items ≡ words_with self.old.shape access words.old.items }
+        ensures state { self.new ≡ retired_on access (met_among self.old.shape access words.old.items) self.old }
+    {
+        let Access { rd, address, .. } = access;
+        let place = (address % self.shape.line_bytes() / 4) as usize;
+        let applied = apply(access, words[place]);
+        words[place] = applied.new_word;
+        self.regs.set(rd, applied.rd_value);
+        self.pc = self.pc.wrapping_add(4);
+        self.retired += 1;
+    }
+
+    /// The line comes into the cache: a write has it modified, and has to write it back where requests are queued; a read
+    /// has it shared, and no copy where a write is queued.
+    fn fill_line(&mut self, want: &Want, words: &[u32], behind: Behind)
+        requires { CanTake want.now words.now self.old }
+        ensures { self.new ≡ with_filled want.now words.now behind self.old }
+    {
+        match (want.kind, behind) {
+            (Kind::Read, Behind::Write) => {}
+            (Kind::Read, Behind::Nobody | Behind::Reads) => self
+                .cache
+                .put(want.line, Mode::Shared, words),
+            (Kind::Write, Behind::Nobody) => self.cache.put(want.line, Mode::Modified, words),
+            (Kind::Write, Behind::Reads) => {
+                self.cache.put(want.line, Mode::Modified, words);
+                self.pending.push_back(want.line);
+            }
+            (Kind::Write, Behind::Write) => {
+                self.cache.put(want.line, Mode::Modified, words);
+                self.pending.push_back(want.line);
+                self.claimed.insert(want.line);
+            }
+        }
+    }
+
+    /// Ends the want, which was posted in the slot `post`, with the words of its line.
+    fn serve(&mut self, want: &Want, words: &mut ArrayVec<u32, 16>, post: u32, behind: Behind)
+        requires { CanServe want.now words.old.items self.old }
+        ensures { self.new ≡ served want.now words.old.items post behind self.old }
+    {
+        self.finish_access(want.access, words);
+        self.fill_line(want, words.as_slice(), behind);
+        self.rows.push(Row {
+            core: self.number,
+            line: want.line,
+            kind: want.kind,
+            issue: want.issue,
+            post,
+            fill: self.slot,
+        });
+        self.pending.take_want();
+        self.pending.acted(Turn::WriteBack);
+    }
+
+    /// The name of the want's request: an upgrade where the core holds the line shared.
+    fn name_for(&self, want: &Want) -> Name
+        ensures { result ≡ name_for want.now self.now }
+    {
+        match (want.kind, self.cache.find(want.line)) {
+            (Kind::Read, _) => Name::GetS,
+            (Kind::Write, Some(Mode::Shared)) => Name::Upg,
+            (Kind::Write, _) => Name::GetM,
+        }
+    }
+
+    /// Posts the want's request; it may be filled at once.
+    fn post<P: BusPort>(&mut self, want: &Want, bus: &mut P) -> Action
+        requires wanted { self.old.pending.want ≡ Some want.now }
+        requires slot { IsOwnSlot self.old.number (P.side bus.old) }
+        requires can { CanPost self.old.number want.now.line (P.side bus.old).memory }
+        requires serve { fills_at_once want.now (P.side bus.old).memory self.old ≡ true → CanServe want.now (line_in (P.side bus.old).memory want.now.line) (asked self.old) }
+        ensures core { self.new ≡ posted_state want.now (P.side bus.old).memory self.old }
+        ensures action { result ≡ posted_action want.now (P.side bus.old).memory self.old }
+        ensures side { P.side bus.new ≡ side_posted self.old.number want.now.line (name_for want.now self.old) (P.side bus.old) }
+    {
+        let name = self.name_for(want);
+        let mut words = ArrayVec::new();
+        self.pending.posted(self.slot);
+        self.pending.acted(Turn::WriteBack);
+        match bus.post(self.number, want.line, name, &mut words) {
+            Posted::Queued => Action::Post(name, want.line),
+            Posted::Filled => {
+                self.serve(want, &mut words, self.slot, Behind::Nobody);
+                Action::PostFill(name, want.line)
+            }
+        }
+    }
+
+    /// Fills the want's request, which was posted in the slot `post`.
+    fn fill<P: BusPort>(&mut self, want: &Want, post: u32, bus: &mut P) -> Action
+        requires slot { IsOwnSlot self.old.number (P.side bus.old) }
+        requires can { CanFill self.old.number want.now.line (P.side bus.old).memory }
+        requires serve { CanServe want.now (line_in (P.side bus.old).memory want.now.line) self.old }
+        ensures core { self.new ≡ served want.now (line_in (P.side bus.old).memory want.now.line) post (behind_in want.now.line (removed self.old.number (P.side bus.old).memory.posted)) self.old }
+        ensures action { result ≡ Fill want.now.line }
+        ensures side { P.side bus.new ≡ side_filled self.old.number want.now.line (P.side bus.old) }
+    {
+        let mut words = ArrayVec::new();
+        let behind = bus.fill(self.number, want.line, &mut words);
+        self.serve(want, &mut words, post, behind);
+        Action::Fill(want.line)
+    }
+
+    /// The modified line that has to be written back before the want's request can be posted.
+    fn victim(&self) -> Option<u32>
+        ensures { result ≡ victim_in self.now.pending.want }
+    {
+        self.pending.want()?.victim
+    }
+
+    /// Whether a line that is written back stays shared: no write is queued for it, and it isn't the victim.
+    fn keeps(&self, line: u32) -> bool
+        ensures { result ≡ keeps line self.now }
+    {
+        !self.claimed.contains(line) && self.victim() != Some(line)
+    }
+
+    /// The line is no victim any more.
+    fn end_victim(&mut self, line: u32)
+        ensures { self.new ≡ with_want (option_map (clear_victim line) self.old.pending.want) self.old }
+    {
+        if self.victim() == Some(line) {
+            self.pending.clear_victim();
+        }
+    }
+
+    /// Writes the first line back.
+    fn write_back<P: BusPort>(&mut self, bus: &mut P) -> Action
+        requires some { 0 < length self.old.pending.write_backs }
+        requires slot { IsOwnSlot self.old.number (P.side bus.old) }
+        requires first { (line : ℕ) (lines : List ℕ) → self.old.pending.write_backs ≡ line ∷ lines → CanBack line self.old (P.side bus.old).memory }
+        ensures { (line : ℕ) (lines : List ℕ) → self.old.pending.write_backs ≡ line ∷ lines → IsBacked line lines self.old (P.side bus.old) result self.new (P.side bus.new) }
+    {
+        let line = self.pending.pop();
+        let keep = self.keeps(line);
+        let mut words = ArrayVec::new();
+        self.cache.copy_line(line, &mut words);
+        bus.back(self.number, line, words.as_slice(), keep);
+        if keep {
+            self.cache.set_mode(line, Mode::Shared);
+        } else {
+            self.cache.drop_line(line);
+        }
+        self.claimed.remove(line);
+        self.end_victim(line);
+        self.pending.acted(Turn::Request);
+        Action::Back(line, keep)
+    }
+
+    /// Posts or fills the request of the want.
+    fn request<P: BusPort>(&mut self, bus: &mut P) -> Action
+        requires wanted { self.old.pending.want ≢ None }
+        requires slot { IsOwnSlot self.old.number (P.side bus.old) }
+        requires can { (want : Want) → self.old.pending.want ≡ Some want → CanRequest want.post want self.old (P.side bus.old).memory }
+        ensures { (want : Want) → self.old.pending.want ≡ Some want → IsRequested want.post want self.old (P.side bus.old) result self.new (P.side bus.new) }
+    {
+        let Some(want) = self.pending.want() else {
+            unreachable!()
+        };
+        match want.post {
+            None => self.post(&want, bus),
+            Some(post) => self.fill(&want, post, bus),
+        }
+    }
+
+    /// Does the action of the slot, which is the core's.
+    pub fn act<P: BusPort>(&mut self, bus: &mut P) -> Action
+        requires { CanAct self.old (P.side bus.old) }
+        ensures acted { (job : JobValue) (slot c : ℕ) → IsPartAfter job slot c self.old → IsBusPart job slot (P.side bus.old) → IsActed job slot c result self.new (P.side bus.new) }
+        ensures keeps { (P.side bus.new).keeps ≡ (P.side bus.old).keeps }
+    {
+        let action = match self.pending.choose(bus.ready(self.number)) {
+            Choice::Idle => {
+                bus.idle(self.number);
+                Action::Idle
+            }
+            Choice::Request => self.request(bus),
+            Choice::Back => self.write_back(bus),
+        };
+        self.slot += 1;
+        self.phase_done = false;
+        action
+    }
+}

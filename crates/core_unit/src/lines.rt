@@ -1,0 +1,54 @@
+//! A few lines, each once.
+ghost use Rattle.std.specs.Prelude.{◌≡◌, ◌<◌, [], length, false};
+ghost use Rattle.pmsi_model.specs.Machine.{append_once, has_line};
+ghost use Rattle.core_unit.specs.Lines.{without_line};
+
+use arrayvec::ArrayVec;
+use std::marker::Model;
+
+/// Lines in a fixed room, in the order in which they came.
+#[derive(Drop)]
+pub struct LineSet {
+    items: ArrayVec<u32, 16>,
+}
+
+impl Model for LineSet {
+    ghost use Rattle.std.specs.Prelude.{ℕ, List};
+
+    ghost Value = { List ℕ };
+
+    ghost view = { λ a. a.items.items };
+}
+
+impl LineSet {
+    pub fn new() -> LineSet
+        ensures { result ≡ [] }
+    {
+        LineSet {
+            items: ArrayVec::new(),
+        }
+    }
+
+    pub fn contains(&self, line: u32) -> bool
+        ensures { result ≡ has_line line self.now }
+    {
+        self.items.as_slice().contains(&line)
+    }
+
+    /// The line is there, last where it wasn't.
+    pub fn insert(&mut self, line: u32)
+        requires { has_line line self.old ≡ false → length self.old < 16 }
+        ensures { self.new ≡ append_once line self.old }
+    {
+        if !self.contains(line) {
+            self.items.push(line);
+        }
+    }
+
+    /// The line is there no more.
+    pub fn remove(&mut self, line: u32)
+        ensures { self.new ≡ without_line line self.old }
+    {
+        self.items.retain(|item| *item != line);
+    }
+}

@@ -1,0 +1,205 @@
+//! A core's phase of a slot: at most a quantum of instructions.
+ghost use Rattle.std.specs.Prelude.{◌≡◌, ℕ, ◌+◌, ◌/◌, ◌%◌, ◌^◌, ◌<◌, List, length, true, None, slice_get};
+ghost use Rattle.pmsi_model.specs.Access.{kind_of, width_of};
+ghost use Rattle.pmsi_model.specs.Effect.{Memory as MemoryEffect};
+ghost use Rattle.pmsi_model.specs.Geometry.{IsGeometry, line_of};
+ghost use Rattle.pmsi_model.specs.Instruction.{instr_of};
+ghost use Rattle.pmsi_model.specs.Job.{JobValue, text_of};
+ghost use Rattle.pmsi_model.specs.Machine.{is_modified, mode_of};
+ghost use Rattle.pmsi_model.specs.Phase.{after_effect, can_run, effect_of_word, instruction, permits, victim_of};
+ghost use Rattle.cache_array.specs.Cache.{Holds, IsCache, held_of, others, word_place};
+ghost use Rattle.rv_exec.specs.Effects.{IsAccessTo};
+ghost use Rattle.core_unit.specs.State.{core_of, gone_for, lines_after, performed, wanting, with_lines, with_room};
+ghost use Rattle.core_unit.specs.Stands.{CanExecute, Carries, SameRun, StandsFor, with_memory};
+ghost use Rattle.core_unit.specs.Parts.{CanPhase, IsPart, IsPartAfter};
+ghost use Rattle.core_unit.specs.Phases.{IsInPhase};
+
+use crate::state::State;
+use pmsi_model::{Access, AccessOp, Halt, Kind, Mode, Status, Want};
+use rv_decode::decode;
+use rv_exec::{Effect, apply, exec};
+
+impl State {
+    fn can_run(&self) -> bool
+        ensures { result ≡ can_run (core_of self.now) }
+    {
+        match self.status {
+            Status::Running => self.pending.want().is_none(),
+            Status::Halted(_) => false,
+        }
+    }
+
+    /// Leaves a word in the cache after an access to it: a store or an atomic operation writes it, a load leaves it as it is.
+    fn leave(&mut self, op: AccessOp, address: u32, word: u32)
+        requires aligned { address % 4 ≡ 0 }
+        requires held { Holds (line_of self.old.cache.shape address) self.old.cache.lines }
+        ensures { self.new ≡ with_lines (lines_after (kind_of op) (line_of self.old.cache.shape address) (word_place self.old.cache.shape address) word self.old.cache.lines) self.old }
+    {
+        match op {
+            AccessOp::Load(_) => {}
+            AccessOp::Store(_) | AccessOp::Amo(_) => self.cache.write_word(address, word),
+        }
+    }
+
+    /// Does an access on the word of the cached line, and retires its instruction.
+    fn perform(&mut self, access: Access)
+        requires aligned { access.address % width_of access.op ≡ 0 }
+        requires shape { IsGeometry self.old.cache.shape }
+        requires held { Holds (line_of self.old.cache.shape access.address) self.old.cache.lines }
+        requires room { self.old.retired + 1 < 2 ^ 64 }
+        ensures { self.new ≡ performed access self.old }
+    {
+        let Access {
+            op,
+            rd,
+            address,
+            ..
+        } = access;
+        let word = address - address % 4;
+        let applied = apply(access, self.cache.read_word(word));
+        self.regs.set(rd, applied.rd_value);
+        self.leave(op, word, applied.new_word);
+        self.pc = self.pc.wrapping_add(4);
+        self.retired += 1;
+    }
+
+    /// Whether the core holds a line modified.
+    fn owns(&self, line: u32) -> bool
+        ensures mode { result ≡ is_modified (mode_of line (held_of self.now.cache.lines)) }
+        ensures cache { IsCache self.now.cache }
+    {
+        match self.cache.find(line) {
+            Some(Mode::Modified) => true,
+            Some(Mode::Shared) | None => false,
+        }
+    }
+
+    fn permits(&self, kind: Kind, line: u32) -> bool
+        ensures { result ≡ permits kind (mode_of line (held_of self.now.cache.lines)) }
+    {
+        match kind {
+            Kind::Read => self.cache.find(line).is_some(),
+            Kind::Write => self.owns(line),
+        }
+    }
+
+    /// A shared line leaves the cache.
+    fn drop_shared(&mut self, line: u32)
+        requires { Holds line self.old.cache.lines }
+        ensures { self.new ≡ with_lines (others line self.old.cache.lines) self.old }
+    {
+        self.cache.drop_line(line);
+    }
+
+    /// Makes room where the set is full: a shared line is dropped at once, a modified one is to be written back first, and
+    /// is given.
+    fn evict(&mut self, line: u32) -> Option<u32>
+        requires { length self.old.pending.write_backs < self.old.pending.cores }
+        ensures victim { result ≡ victim_of (gone_for line self.old) }
+        ensures after { self.new ≡ with_room line self.old }
+    {
+        let victim = self.cache.victim(line)?;
+        if self.owns(victim) {
+            self.demand(victim);
+            Some(victim)
+        } else {
+            self.drop_shared(victim);
+            None
+        }
+    }
+
+    /// The core gets a want.
+    fn miss(&mut self, access: Access, line: u32)
+        requires backs { length self.old.pending.write_backs < self.old.pending.cores }
+        requires none { self.old.pending.want ≡ None }
+        ensures { self.new ≡ wanting access line self.old }
+    {
+        let victim = self.evict(line);
+        self.pending.set_want(Want {
+            line,
+            kind: access.op.kind(),
+            issue: self.slot,
+            post: None,
+            victim,
+            access,
+        });
+    }
+
+    /// Does an access at once where it has permission; else the core gets a want.
+    fn access(&mut self, access: Access)
+        requires ready { CanExecute self.old }
+        requires within { IsAccessTo self.old.shape.memory access }
+        ensures same { SameRun self.old self.new }
+        ensures stands { (job : JobValue) (c : ℕ) (memory : List ℕ) → Carries job c memory self.old → StandsFor job c (after_effect job.shape self.old.slot (MemoryEffect access) (with_memory memory self.old)) self.new }
+    {
+        let line = self.shape.line_of(access.address);
+        if self.permits(access.op.kind(), line) {
+            self.perform(access);
+            self.cache.touch(line);
+        } else {
+            self.miss(access, line);
+        }
+    }
+
+    /// Executes a fetched word.
+    fn execute(&mut self, word: u32)
+        requires { CanExecute self.old }
+        ensures same { SameRun self.old self.new }
+        ensures stands { (job : JobValue) (c : ℕ) (memory : List ℕ) → Carries job c memory self.old → StandsFor job c (after_effect job.shape self.old.slot (effect_of_word job.shape word (core_of self.old) (instr_of word)) (with_memory memory self.old)) self.new }
+    {
+        let Some(instr) = decode(word) else {
+            self.status = Status::Halted(Halt::Illegal(word));
+            return;
+        };
+        match exec(instr, &mut self.regs, self.pc, self.shape.memory) {
+            Effect::Next(pc) => {
+                self.pc = pc;
+                self.retired += 1;
+            }
+            Effect::Stop(halt) => self.status = Status::Halted(halt),
+            Effect::Memory(access) => self.access(access),
+        }
+    }
+
+    /// The word at the pc, if the pc is in the text.
+    fn fetch_word(&self) -> Option<u32>
+        ensures { result ≡ slice_get self.now.text (self.now.pc / 4) }
+    {
+        self.text.as_slice().get((self.pc / 4) as usize).copied()
+    }
+
+    /// Takes the instruction at the pc.
+    fn instruction(&mut self)
+        requires ready { CanExecute self.old }
+        requires runs { can_run (core_of self.old) ≡ true }
+        ensures same { SameRun self.old self.new }
+        ensures stands { (job : JobValue) (c : ℕ) (memory : List ℕ) → Carries job c memory self.old → StandsFor job c (instruction job.shape self.old.slot (text_of job c) (with_memory memory self.old)) self.new }
+    {
+        match self.fetch_word() {
+            Some(word) => self.execute(word),
+            None => self.status = Status::Halted(Halt::FetchRange(self.pc)),
+        }
+    }
+
+    /// Takes at most a quantum of instructions.
+    fn take_quantum(&mut self)
+        requires { CanPhase self.old }
+        ensures { (job : JobValue) (slot c : ℕ) → slot < job.shape.slots → IsPart job slot c self.old → IsInPhase job slot c job.shape.quantum self.new }
+    {
+        for _ in 0..self.shape.quantum {
+            if !self.can_run() {
+                return;
+            }
+            self.instruction();
+        }
+    }
+
+    /// The phase of the slot.
+    pub fn phase(&mut self)
+        requires { CanPhase self.old }
+        ensures { (job : JobValue) (slot c : ℕ) → slot < job.shape.slots → IsPart job slot c self.old → IsPartAfter job slot c self.new }
+    {
+        self.take_quantum();
+        self.phase_done = true;
+    }
+}
