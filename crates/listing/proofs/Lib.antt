@@ -2,3 +2,4 @@ pub mod Texts
 pub mod Sums
 pub mod Sixteens
 pub mod Parts
+pub mod WaitLines

@@ -1,10 +1,4 @@
-pub mod Agreement
-pub mod Steps
-pub mod Acts
-pub mod Machines
-pub mod Safe
-pub mod Evictions
-pub mod Quanta
-pub mod Acting
-pub mod Sims
-pub mod Performs
+pub mod Slots
+pub mod Opens
+pub mod Words
+pub mod Rows

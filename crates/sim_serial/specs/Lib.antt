@@ -1,6 +1,2 @@
-pub mod Words
-pub mod Rows
-pub mod Agrees
-pub mod State
-pub mod Stands
+pub mod Cores
 pub mod Sims

@@ -1,10 +1,9 @@
 //! The whole machine on one thread.
 #![tactic(auto)]
 
-mod memory;
-mod queue;
-mod rows;
+mod cores;
 mod sim;
-mod state;
+#[cfg(test)]
+mod tests;
 
 pub use sim::Sim;
