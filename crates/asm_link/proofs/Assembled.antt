@@ -1,17 +1,16 @@
 -- A source whose lines were placed, checked and put into text and data is assembled.
-use Rattle.std.proofs.Common.{◌≡◌, ℕ, ◌+◌, ◌*◌, ◌^◌, ◌<◌, ◌≤◌, Bool, true, false, List, [], ◌∷◌, ◌++◌, length, map, get_or, Option, Some, None, refl, ap, sym, subst, ◌∙◌, arith, suc, append_assoc, append-nil}
-use Rattle.std.specs.Prelude.{ℤ, not, if◌then◌else◌}
+use Rattle.std.proofs.Common.{◌≡◌, ℕ, ◌^◌, ◌<◌, ◌≤◌, List, [], ◌∷◌, ◌++◌, length, map, get_or, Option, Some, None, refl, ap, sym, subst, ◌∙◌, arith, suc, append_assoc, append-nil}
+use Rattle.std.specs.Prelude.{ℤ, not}
 use Rattle.std.specs.Option.{option_or}
 use Rattle.std.specs.List.{All, AllZip, filter, flat_map}
 use Rattle.pmsi_model.specs.declared.image.Piece.{Piece}
 use Rattle.pmsi_model.specs.declared.limits.TheConstants.{MAX_TEXT_WORDS}
-use Rattle.pmsi_model.specs.Image.{IsImage, ArePieces}
+use Rattle.pmsi_model.specs.Image.{ArePieces}
 use Rattle.asm_parse.specs.declared.fault.AsmFault.{AsmFault}
 use Rattle.asm_parse.specs.declared.place.Place.{Place}
-use Rattle.asm_parse.specs.declared.names.Names.{Names}
 use Rattle.asm_parse.specs.Mnemonics.{Code}
-use Rattle.asm_parse.specs.NameTable.{HasNames}
-use Rattle.asm_parse.specs.Assembly.{Before, Step, at_start, after_step, asm_fault, at_line, byte_at, bytes_by, codes_of, data_of, first_fault, first_of, has_byte, later_fault, names_by, names_of, steps_of, text_of, HasAsmFault, IsAssembled, IsWordOf}
+use Rattle.asm_operands.specs.NameTable.{HasNames}
+use Rattle.asm_parse.specs.Assembly.{Before, Step, at_start, after_step, asm_fault, at_line, byte_at, codes_of, data_of, first_fault, first_of, later_fault, names_by, names_of, steps_of, text_of, HasAsmFault, IsAssembled, IsWordOf}
 use Rattle.asm_link.specs.declared.layout.Layout.{Layout}
 use Rattle.asm_link.specs.Bytes.{byte_of}
 use Rattle.asm_link.specs.Values.{held}
@@ -77,7 +76,7 @@ memory_assembled source layout memory pieces h kept put cut address =
     ∙ ap (λ (k : Option ℕ). option_or (last_of names steps address) k) (h.memory address)
     ∙ data_bytes_are source names h.faultless (all_sized names layout.steps.items steps kept h.kept) address
 
-zip_length : {A B : Type 0} (R : A → B → Type 0) (xs : List A) (ys : List B) → AllZip R xs ys → length xs ≡ length ys
+pub zip_length : {A B : Type 0} (R : A → B → Type 0) (xs : List A) (ys : List B) → AllZip R xs ys → length xs ≡ length ys
 zip_length R [] [] zip = refl
 zip_length R (x ∷ xs) [] zip = absurd zip
 zip_length R [] (y ∷ ys) zip = absurd zip
@@ -91,7 +90,7 @@ text_within source layout words h within kept zip =
     let names = names_of steps in
     let long = text_length source names (all_long names layout.steps.items steps kept h.kept) in
     let count = zip_length IsWordOf (flat_map (codes_of names) (filter (λ step. not step.place.in_data) steps)) words zip in
-    let place : layout.place.text ≡ (before_of at_start steps).place.text = ap (λ (p : Place). p.text) h.place in
+    let place : layout.place.text_at ≡ (before_of at_start steps).place.text_at = ap (λ (p : Place). p.text_at) h.place in
     omega (arith, long, count, place, within.0)
 
 -- a source that was laid out and filled in is assembled

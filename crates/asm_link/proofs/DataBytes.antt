@@ -12,6 +12,7 @@ use Rattle.asm_parse.specs.Lines.{lines_of}
 use Rattle.asm_parse.specs.Assembly.{Before, Step, Statement, Nothing, Switch, Emit, Zeros, MoveTo, Define, at_start, after_step, byte_at, byte_in, bytes_by, code_at, code_bytes, codes_of, first_of, has_byte, here, items_of, overlap_fault, placed, placed_from, placing_fault, run_by, size_of, step_of, steps_from, steps_of, zeros_of}
 use Rattle.asm_link.specs.Rounds.{before_of}
 use Rattle.asm_link.proofs.Overwriting.{get_within}
+use Rattle.asm_link.proofs.FirstOf.{first_or, or_none, or_three}
 
 -- the bytes that a line has of its own
 abbrev own_bytes : List (List ℕ × ℤ) → Step → List ℕ
@@ -21,7 +22,7 @@ own_bytes names step = flat_map code_bytes (codes_of names step)
 unfoldable pub last_of : List (List ℕ × ℤ) → List Step → ℕ → Option ℕ
 last_of names [] address = None
 last_of names (step ∷ steps) address =
-    option_or (last_of names steps address) (if step.place.in_data then byte_in address (step.place.memory, flat_map code_bytes (codes_of names step)) else None)
+    option_or (last_of names steps address) (if step.place.in_data then byte_in address (step.place.data_at, flat_map code_bytes (codes_of names step)) else None)
 
 abbrev pub IsSized : List (List ℕ × ℤ) → Step → Type 0
 IsSized names step = step.place.in_data ≡ true → length (bytes_by names step) ≡ size_of step.does
@@ -79,11 +80,11 @@ mapped_none : {A B : Type 0} (f : A → B) (x : Option A) → option_map f x ≡
 mapped_none f None none = refl
 mapped_none f (Some a) none = absurd (cc)
 
-no_overlap : (b : Before) (does : Statement) (address : ℕ) → b.place.in_data ≡ true → overlap_fault b does ≡ None → b.place.memory ≤ address → address < b.place.memory + size_of does → has_byte b.runs address ≡ false
+no_overlap : (b : Before) (does : Statement) (address : ℕ) → b.place.in_data ≡ true → overlap_fault b does ≡ None → b.place.data_at ≤ address → address < b.place.data_at + size_of does → has_byte b.runs address ≡ false
 no_overlap b does address there none least most =
-    let found : find (has_byte b.runs) (range_with_len b.place.memory (size_of does)) ≡ None = mapped_none (λ address. AsmCause.Overlap address) _ (rw there at none) in
-    let at : b.place.memory + (address - b.place.memory) ≡ address = omega arith in
-    sym (ap (has_byte b.runs) at) ∙ not_found (has_byte b.runs) b.place.memory (size_of does) (address - b.place.memory) found (omega arith)
+    let found : find (has_byte b.runs) (range_with_len b.place.data_at (size_of does)) ≡ None = mapped_none (λ address. AsmCause.Overlap address) _ (rw there at none) in
+    let at : b.place.data_at + (address - b.place.data_at) ≡ address = omega arith in
+    sym (ap (has_byte b.runs) at) ∙ not_found (has_byte b.runs) b.place.data_at (size_of does) (address - b.place.data_at) found (omega arith)
 
 -- the step of a line has no fault, so its bytes overlap none before
 step_apart : (number : ℕ) (b : Before) (line : List ℕ) → (step_of number b line).fault ≡ None → overlap_fault b (step_of number b line).does ≡ None
@@ -96,10 +97,6 @@ step_apart number b line none = last_none (_ ∷ _ ∷ _ ∷ []) _ (last_none (_
 record Known (named : Bool) (last byte : Option ℕ) : Type 0 where
   some : is_some byte ≡ named
   put : option_or last (if named then Some 0 else None) ≡ byte
-
-or_none : {A : Type 0} (x : Option A) → option_or x None ≡ x
-or_none None = refl
-or_none (Some a) = refl
 
 known_there : (named : Bool) (last byte : Option ℕ) → Known named last byte → Known named last (option_or byte None)
 known_there named last byte known = rw (or_none byte) known
@@ -149,26 +146,17 @@ line_more runs last byte memory size address own bytes false known sized short o
 
 -- what one line more puts there
 known_more : (names : List (List ℕ × ℤ)) (step : Step) (runs : List (ℕ × ℕ)) (last byte : Option ℕ) (address : ℕ) → Known (has_byte runs address) last byte → IsSized names step
-    → (step.place.in_data ≡ true → step.place.memory ≤ address → address < step.place.memory + size_of step.does → has_byte runs address ≡ false)
-    → Known (has_byte (run_by step ++ runs) address) (option_or (if step.place.in_data then byte_in address (step.place.memory, own_bytes names step) else None) last)
-    (option_or byte (if step.place.in_data then byte_in address (step.place.memory, bytes_by names step) else None))
+    → (step.place.in_data ≡ true → step.place.data_at ≤ address → address < step.place.data_at + size_of step.does → has_byte runs address ≡ false)
+    → Known (has_byte (run_by step ++ runs) address) (option_or (if step.place.in_data then byte_in address (step.place.data_at, own_bytes names step) else None) last)
+    (option_or byte (if step.place.in_data then byte_in address (step.place.data_at, bytes_by names step) else None))
 unfolding placed
 known_more names step runs last byte address known sized apart =
     let own = own_or_zero names (here step.place) step.does in
-    line_more runs last byte step.place.memory (size_of step.does) address (own_bytes names step) (bytes_by names step) step.place.in_data known sized (own_short names step) (λ long k lt. own k long lt) apart
-
-or_three : {A : Type 0} (x y z : Option A) → option_or x (option_or y z) ≡ option_or (option_or x y) z
-or_three None y z = refl
-or_three (Some a) y z = refl
-
-first_or : {A : Type 0} (x : Option A) (xs : List (Option A)) → first_of (x ∷ xs) ≡ option_or x (first_of xs)
-unfolding first_of
-first_or None xs = refl
-first_or (Some a) xs = refl
+    line_more runs last byte step.place.data_at (size_of step.does) address (own_bytes names step) (bytes_by names step) step.place.in_data known sized (own_short names step) (λ long k lt. own k long lt) apart
 
 -- the bytes of the lines of data, with their addresses
-abbrev data_in : List (List ℕ × ℤ) → List Step → List (ℕ × List ℕ)
-data_in names steps = map (λ step. (step.place.memory, bytes_by names step)) (filter (λ step. step.place.in_data) steps)
+abbrev pub data_in : List (List ℕ × ℤ) → List Step → List (ℕ × List ℕ)
+data_in names steps = map (λ step. (step.place.data_at, bytes_by names step)) (filter (λ step. step.place.in_data) steps)
 
 first_filtered : {A B : Type 0} (test : A → Bool) (f : A → Option B) (x : A) (xs : List A) (here : Bool) → test x ≡ here
     → first_of (map f (filter test (x ∷ xs))) ≡ option_or (if test x then f x else None) (first_of (map f (filter test xs)))
@@ -176,16 +164,16 @@ unfolding first_of
 first_filtered test f x xs true is = rw is (first_or (f x) (map f (filter test xs)))
 first_filtered test f x xs false is = rw is refl
 
-byte_next : (names : List (List ℕ × ℤ)) (step : Step) (steps : List Step) (address : ℕ)
-    → byte_at (data_in names (step ∷ steps)) address ≡ option_or (if step.place.in_data then byte_in address (step.place.memory, bytes_by names step) else None) (byte_at (data_in names steps) address)
+pub byte_next : (names : List (List ℕ × ℤ)) (step : Step) (steps : List Step) (address : ℕ)
+    → byte_at (data_in names (step ∷ steps)) address ≡ option_or (if step.place.in_data then byte_in address (step.place.data_at, bytes_by names step) else None) (byte_at (data_in names steps) address)
 unfolding byte_at
 byte_next names step steps address =
-    let run : Step → ℕ × List ℕ = λ step. (step.place.memory, bytes_by names step) in
+    let run : Step → ℕ × List ℕ = λ step. (step.place.data_at, bytes_by names step) in
     let in_data : Step → Bool = λ step. step.place.in_data in
     ap first_of (map-map (byte_in address) run (filter in_data (step ∷ steps))) ∙ first_filtered in_data (λ step. byte_in address (run step)) step steps step.place.in_data refl
     ∙ ap (λ k. option_or (if step.place.in_data then byte_in address (run step) else None) (first_of k)) (sym (map-map (byte_in address) run (filter in_data steps)))
 
-no_bytes : (address : ℕ) → byte_at [] address ≡ None
+pub no_bytes : (address : ℕ) → byte_at [] address ≡ None
 unfolding byte_at first_of
 no_bytes address = refl
 
@@ -200,9 +188,9 @@ known_all names address number b [] last byte faultless sized known = rw (no_byt
 known_all names address number b (line ∷ lines) last byte faultless sized known =
     let step = step_of number b line in
     let later = steps_from (number + 1) (after_step b step) lines in
-    let own = (if step.place.in_data then byte_in address (step.place.memory, own_bytes names step) else None) in
-    let new = (if step.place.in_data then byte_in address (step.place.memory, bytes_by names step) else None) in
-    let apart : step.place.in_data ≡ true → step.place.memory ≤ address → address < step.place.memory + size_of step.does → has_byte b.runs address ≡ false =
+    let own = (if step.place.in_data then byte_in address (step.place.data_at, own_bytes names step) else None) in
+    let new = (if step.place.in_data then byte_in address (step.place.data_at, bytes_by names step) else None) in
+    let apart : step.place.in_data ≡ true → step.place.data_at ≤ address → address < step.place.data_at + size_of step.does → has_byte b.runs address ≡ false =
     λ there least most. no_overlap b step.does address there (step_apart number b line (All-head (λ step. step.fault ≡ None) step later faultless)) least most in
     let now = known_more names step b.runs last byte address known (All-head (IsSized names) step later sized) apart in
     let rest = known_all names address (number + 1) (after_step b step) lines (option_or own last) (option_or byte new) (All-tail (λ step. step.fault ≡ None) step later faultless) (All-tail (IsSized names) step later sized) now in
@@ -211,7 +199,7 @@ known_all names address number b (line ∷ lines) last byte faultless sized know
 
 pub data_bytes_are : (source : List ℕ) (names : List (List ℕ × ℤ)) → All (λ step. step.fault ≡ None) (steps_of source) → All (IsSized names) (steps_of source) → (address : ℕ)
     → option_or (last_of names (steps_of source) address) (if has_byte (before_of at_start (steps_of source)).runs address then Some 0 else None)
-    ≡ byte_at (map (λ step. (step.place.memory, bytes_by names step)) (filter (λ step. step.place.in_data) (steps_of source))) address
+    ≡ byte_at (map (λ step. (step.place.data_at, bytes_by names step)) (filter (λ step. step.place.in_data) (steps_of source))) address
 unfolding steps_of
 data_bytes_are source names faultless sized address =
     let known = known_all names address 1 at_start (lines_of source) None None faultless sized (record { some = refl; put = refl }) in

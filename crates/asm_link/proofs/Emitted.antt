@@ -1,31 +1,22 @@
 -- What the items of a line come to.
-use Rattle.std.proofs.Common.{◌≡◌, ℕ, suc, ◌+◌, ◌-◌, ◌*◌, ◌%◌, ◌<◌, ◌≤◌, Bool, true, false, List, [], ◌∷◌, ◌++◌, length, map, take, drop, get_or, Option, Some, None, refl, ap, sym, ◌∙◌, arith, append_assoc, append-nil, length-append}
+use Rattle.std.proofs.Common.{◌≡◌, ℕ, ◌+◌, ◌*◌, true, List, [], ◌∷◌, ◌++◌, length, map, Option, None, refl, ap, sym, ◌∙◌, arith, append_assoc, append-nil, length-append}
 use Rattle.std.specs.Prelude.{ℤ, pos, negsuc, Result, Ok, Err, OnOk}
 use Rattle.std.specs.Option.{option_or}
 use Rattle.std.specs.List.{All, AllZip, flat_map}
 use Rattle.std.proofs.lemmas.List.Elements.{All-nil, All-cons}
 use Rattle.pmsi_model.specs.Words.{word_of}
-use Rattle.asm_parse.specs.declared.fault.AsmCause.{AsmCause}
-use Rattle.asm_parse.specs.declared.expr.Expr as written
+use Rattle.asm_operands.specs.declared.expr.Expr as written
 use Rattle.asm_parse.specs.declared.item.Width.{Width}
-use Rattle.asm_parse.specs.declared.item.Width.TheVariants.{Byte, Half, Word}
-use Rattle.asm_parse.specs.Meanings.{expr}
-use Rattle.asm_parse.specs.Numbers.{is_number}
-use Rattle.asm_parse.specs.Operands.{expr_value}
-use Rattle.asm_parse.specs.Mnemonics.{Code, Item, in_32_bits}
-use Rattle.asm_parse.specs.Items.{bytes_in, fits_in, number_of}
+use Rattle.asm_operands.specs.Meanings.{expr}
+use Rattle.asm_operands.specs.Numbers.{is_number}
+use Rattle.asm_parse.specs.Mnemonics.{Item, in_32_bits}
+use Rattle.asm_parse.specs.Items.{bytes_in, number_of}
 use Rattle.asm_parse.specs.Assembly.{first_of, placed_from, named_number_fault, reach_fault, code_at, code_bytes, unknown_in, IsWordOf}
 use Rattle.asm_link.specs.Placed.{wide, faults_of, faults_in, codes_in, Appends, number_word, number_bytes, unfit}
-use Rattle.asm_link.proofs.FirstOf.{first_append}
+use Rattle.asm_link.proofs.FirstOf.{both_none, first_append, no_first}
 use Rattle.asm_link.proofs.PlacedNumbers.{numbers_placed}
 use Rattle.asm_link.proofs.Overwriting.{bytes_long}
 use Rattle.asm_link.proofs.Laying.{mul_more}
-
--- none is there
-no_first : {A : Type 0} (x : Option A) (xs : List (Option A)) → first_of (x ∷ xs) ≡ None → (x ≡ None) × (first_of xs ≡ None)
-unfolding first_of
-no_first None xs none = (refl, none)
-no_first (Some a) xs none = absurd (cc)
 
 -- the faults of one item, and of two
 pub one_faultless : (names : List (List ℕ × ℤ)) (address : ℕ) (x : Item) → faults_in names address (map (wide 4) (x ∷ [])) ≡ None
@@ -78,10 +69,6 @@ numbers_appended names width address numbers old new e = (map (number_word names
 
 -- ---- numbers of a line without faults
 
-none_of_both : {A : Type 0} (x y : Option A) → option_or x y ≡ None → y ≡ None
-none_of_both None y none = none
-none_of_both (Some a) y none = absurd (cc)
-
 all_none : {A B : Type 0} (f : A → Option B) (xs : List A) → first_of (map f xs) ≡ None → All (λ x. f x ≡ None) xs
 all_none f [] none = All-nil (λ x. f x ≡ None)
 all_none f (x ∷ xs) none =
@@ -94,7 +81,7 @@ numbers_fit names width address numbers none =
     let us = map (λ (e : written.Expr). unknown_in names (expr e)) numbers in
     let ns = map (λ (e : written.Expr). unfit names width e) numbers in
     let both : option_or (first_of us) (first_of ns) ≡ None = sym (first_append us ns) ∙ sym (numbers_placed names width address numbers) ∙ none in
-    all_none (λ (e : written.Expr). unfit names width e) numbers (none_of_both (first_of us) (first_of ns) both)
+    all_none (λ (e : written.Expr). unfit names width e) numbers (both_none (first_of us) (first_of ns) both).1
 
 pub nothing_appended : (names : List (List ℕ × ℤ)) (address : ℕ) (old : List ℕ) → Appends (codes_in names address []) old old
 unfolding placed_from

@@ -1,6 +1,6 @@
 -- Lines that are put into text and data.
-use Rattle.std.proofs.Common.{Vec, Global, ◌≡◌, ℕ, ◌+◌, ◌-◌, ◌<◌, ◌≤◌, Bool, true, false, List, [], ◌∷◌, ◌++◌, length, map, take, drop, get_or, Option, Some, None, refl, ap, sym, subst, ◌∙◌, arith, add-one, append_assoc, append-nil}
-use Rattle.std.specs.Prelude.{ℤ, nat_le, nat_lt, ◌&&◌, if◌then◌else◌, slice_get, IsSome}
+use Rattle.std.proofs.Common.{Vec, Global, ◌≡◌, ℕ, ◌+◌, ◌-◌, ◌<◌, true, List, [], ◌∷◌, ◌++◌, length, map, take, drop, get_or, Option, Some, None, refl, ap, sym, subst, ◌∙◌, arith, add-one, append-nil}
+use Rattle.std.specs.Prelude.{ℤ}
 use Rattle.std.specs.Option.{option_or}
 use Rattle.std.specs.List.{All, AllZip, flat_map}
 use Rattle.std.proofs.Math.Seq.{take-suc}
@@ -9,7 +9,7 @@ use Rattle.std.proofs.lemmas.Grind.{flat_map-append}
 use Rattle.std.proofs.lemmas.List.{map-append, take-append-drop}
 use Rattle.std.proofs.lemmas.List.Elements.{All-nil, All-cons, All-head, All-tail, All-append}
 use Rattle.std.proofs.lemmas.Option.{slice_get_past}
-use Rattle.asm_parse.specs.declared.expr.Expr as written
+use Rattle.asm_operands.specs.declared.expr.Expr as written
 use Rattle.asm_parse.specs.declared.fault.AsmCause.{AsmCause}
 use Rattle.asm_parse.specs.declared.fault.AsmFault.{AsmFault}
 use Rattle.asm_parse.specs.declared.item.Width.{Width}
@@ -24,7 +24,7 @@ use Rattle.asm_link.specs.Placed.{Appends, codes_in, number_bytes}
 use Rattle.asm_link.specs.Filled.{data_bytes, PutsBytes, last_byte}
 use Rattle.asm_link.proofs.Emitted.{number_codes}
 use Rattle.asm_link.proofs.Overwriting.{get_within}
-use Rattle.asm_link.proofs.FirstOf.{first_append, first_here}
+use Rattle.asm_link.proofs.FirstOf.{first_append, first_here, or_three}
 use Rattle.asm_link.proofs.Laying.{AllZip_append}
 
 -- a line of data that has no numbers has no bytes of its own
@@ -78,10 +78,6 @@ words_more f xs i x old new lt is so_far added =
     let cut : flat_map f (take (i + 1) xs) ≡ flat_map f (take i xs) ++ f x =
     ap (flat_map f) (take_more xs i x lt is) ∙ flat_map-append f (take i xs) (x ∷ []) ∙ ap (λ (k : List Code). flat_map f (take i xs) ++ k) (append-nil (f x)) in
     rw cut (rw added.1 (AllZip_append IsWordOf (flat_map f (take i xs)) old (f x) added.0 so_far added.2))
-
-or_three : {A : Type 0} (x y z : Option A) → option_or x (option_or y z) ≡ option_or (option_or x y) z
-or_three None y z = refl
-or_three (Some a) y z = refl
 
 pub bytes_more : (names : List (List ℕ × ℤ)) (xs : List Step) (i : ℕ) (x : Step) (start old new : List (Option ℕ)) → i < length xs → x ≡ get_or xs i x
     → ((address : ℕ) → byte_of old address ≡ option_or (last_byte names (take i xs) address) (byte_of start address)) → PutsBytes names x old new

@@ -1,28 +1,25 @@
 -- How a layout goes from line to line.
-use Rattle.std.proofs.Common.{◌≡◌, ℕ, suc, ◌+◌, ◌*◌, ◌≤◌, Bool, true, false, List, [], ◌∷◌, ◌++◌, length, map, Option, Some, None, refl, ap, sym, subst, ◌∙◌, arith, length-append, append-nil}
+use Rattle.std.proofs.Common.{◌≡◌, ℕ, suc, ◌+◌, ◌*◌, Bool, true, false, List, [], ◌∷◌, ◌++◌, length, map, Option, Some, None, refl, ap, sym, subst, ◌∙◌, arith, length-append}
 use Rattle.std.specs.Prelude.{cond, if◌then◌else◌, ℤ, nat_le, nat_lt, ◌&&◌, ◌==◌, not}
-use Rattle.std.specs.Option.{option_map}
-use Rattle.std.specs.List.{All, AllZip, filter, sum_by}
+use Rattle.std.specs.List.{AllZip, filter, sum_by}
 use Rattle.std.proofs.lemmas.List.Sums.{sum_by-cons}
 use Rattle.std.proofs.lemmas.List.Elements.{All-nil, All-cons, All-append, filter-append}
 use Rattle.asm_parse.specs.declared.fault.AsmCause.{AsmCause}
 use Rattle.asm_parse.specs.declared.fault.AsmFault.{AsmFault}
-use Rattle.asm_parse.specs.declared.names.Names.{Names}
 use Rattle.asm_parse.specs.declared.place.Place.{Place}
 use Rattle.asm_parse.specs.declared.statement.Line.{Line}
-use Rattle.asm_parse.specs.Tokens.{code_of}
-use Rattle.asm_parse.specs.Operands.{Lexeme, lexemes_of}
-use Rattle.asm_parse.specs.Meanings.{lexemes}
-use Rattle.asm_parse.specs.NameTable.{HasNames, HasConstants}
+use Rattle.asm_operands.specs.Tokens.{code_of}
+use Rattle.asm_operands.specs.Operands.{Lexeme, lexemes_of}
+use Rattle.asm_operands.specs.Meanings.{lexemes}
+use Rattle.asm_operands.specs.NameTable.{NamesValue, HasConstants}
 use Rattle.asm_parse.specs.ReadLines.{IsReadAs, asked_by, fault_of}
-use Rattle.asm_parse.specs.Assembly.{Before, Step, Statement, at_start, at_line, after_step, step_of, first_of, reading_fault, placing_fault, first_twice, defined_by, equs_of, has_byte, here, items_of, moved, labels_of, names_by, run_by, size_of, statement_of}
+use Rattle.asm_parse.specs.Assembly.{Before, Step, Statement, at_start, at_line, after_step, step_of, first_of, placing_fault, first_twice, defined_by, equs_of, here, items_of, moved, labels_of, statement_of}
 use Rattle.asm_parse.specs.Items as items
 use Rattle.asm_link.specs.declared.layout.Layout.{Layout}
-use Rattle.asm_link.specs.declared.step.Step as kept
 use Rattle.asm_link.specs.Bytes.{byte_of}
 use Rattle.asm_link.specs.Defined.{Defines, RefusesTwice, labelled, names_in}
 use Rattle.asm_link.specs.Rounds.{IsLayout, IsStep, IsNamed, before_of, has_items, kept_of, runs_of, next_step, room_fault, AddsLine, RefusesLine}
-use Rattle.asm_link.proofs.NameLaws.{defines_more, refuses_more, refuses_first, labelled_named}
+use Rattle.asm_link.proofs.NameLaws.{defines_more, labelled_named}
 
 abbrev pub so_far : List Step → Before
 so_far steps = before_of at_start steps
@@ -102,7 +99,7 @@ refuses_names layout line read fault reads refuses steps h =
     ap (λ (k : Step). at_line layout.number k.fault) (read_step steps line read r) ∙ ap (at_line layout.number) (placing_twice b (lexemes read.labels.items) (items.statement_of read.does) s.0 s.1) ∙ ap Some s.2
 
 -- there is no room for what it does
-pub refuses_room : (layout : Layout) (line : List ℕ) (read : Line) (cause : AsmCause) (names : Names) (more equs : List (List ℕ × ℤ))
+pub refuses_room : (layout : Layout) (line : List ℕ) (read : Line) (cause : AsmCause) (names : NamesValue) (more equs : List (List ℕ × ℤ))
     → ((equs : List (List ℕ × ℤ)) → HasConstants layout.names equs → IsReadAs layout.place equs line read)
     → Defines layout.names names (lexemes read.labels.items ++ defined_by (items.statement_of read.does)) more equs
     → ((b : Before) → b.place ≡ layout.place → IsNamed layout.memory b.runs → Some cause ≡ room_fault b (items.statement_of read.does)) → RefusesLine line layout (AsmFault.At layout.number cause)
@@ -175,7 +172,7 @@ size_of_items {A} {B} width f [] = grind arith
 size_of_items {A} {B} width f (x ∷ xs) = sum_by-cons (λ (item : ℕ × B). item.0) (width, f x) (map (λ item. (width, item)) (map f xs)) ∙ ap (λ (n : ℕ). width + n) (size_of_items width f xs) ∙ mul_more width (length xs)
 
 -- labels, and then a constant
-pub defines_all : (old mid new : Names) (labels found : List Lexeme) (address : ℕ) (constants : List (List ℕ × ℤ)) → Defines old mid labels (labelled labels address) [] → Defines mid new found constants constants
+pub defines_all : (old mid new : NamesValue) (labels found : List Lexeme) (address : ℕ) (constants : List (List ℕ × ℤ)) → Defines old mid labels (labelled labels address) [] → Defines mid new found constants constants
     → Defines old new (labels ++ found) (labelled labels address ++ constants) constants
 defines_all old mid new labels found address constants first second =
     defines_more old mid new labels found (labelled labels address) constants [] constants (labelled_named labels address) first second

@@ -18,3 +18,9 @@ pub mod DataBytes
 pub mod Sized
 pub mod SamePieces
 pub mod OneImage
+pub mod CutPieces
+pub mod FormItems
+pub mod FormTables
+pub mod LineItems
+pub mod Faultless
+pub mod HasImage

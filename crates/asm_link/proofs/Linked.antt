@@ -1,15 +1,12 @@
 -- From the lines that are kept to all lines of a source.
-use Rattle.std.proofs.Common.{◌≡◌, ℕ, ◌+◌, ◌*◌, ◌<◌, ◌≤◌, Bool, true, false, List, [], ◌∷◌, ◌++◌, length, map, Option, Some, None, refl, ap, sym, subst, ◌∙◌, arith}
+use Rattle.std.proofs.Common.{◌≡◌, ℕ, Bool, true, false, List, [], ◌∷◌, ◌++◌, length, map, Option, Some, None, refl, ap, sym, ◌∙◌, arith}
 use Rattle.std.specs.Prelude.{ℤ, pos, not, ◌==◌, cond, if◌then◌else◌}
-use Rattle.std.specs.Option.{option_or, option_map}
 use Rattle.std.specs.List.{All, AllZip, filter, flat_map}
 use Rattle.std.proofs.lemmas.List.Elements.{All-nil, All-cons, All-head, All-tail}
-use Rattle.asm_parse.specs.declared.fault.AsmCause.{AsmCause}
-use Rattle.asm_parse.specs.declared.fault.AsmFault.{AsmFault}
-use Rattle.asm_parse.specs.Numbers.{value_in}
-use Rattle.asm_parse.specs.Operands.{Expr, expr_value, sum_if, value_of_name}
+use Rattle.asm_operands.specs.Numbers.{value_in}
+use Rattle.asm_operands.specs.Operands.{Expr, expr_value, sum_if, value_of_name}
 use Rattle.asm_parse.specs.Mnemonics.{Code, Item, Known, Numbered, Distant}
-use Rattle.asm_parse.specs.Assembly.{Step, at_line, byte_in, codes_of, code_at, code_bytes, first_fault, first_of, here, items_of, later_fault, named_number_fault, placed, placed_from, reach_fault, unknown_item, unknown_name}
+use Rattle.asm_parse.specs.Assembly.{Step, at_line, codes_of, code_at, first_fault, first_of, here, items_of, later_fault, named_number_fault, placed, placed_from, reach_fault, unknown_item, unknown_name}
 use Rattle.asm_link.specs.declared.step.Step as kept
 use Rattle.asm_link.specs.Placed.{codes_in, faults_in, faults_of}
 use Rattle.asm_link.specs.Filled.{items_at, step_fault, step_codes, text_codes}

@@ -1,24 +1,22 @@
 -- Laws of names: which are known, and what defining more of them does.
-use Rattle.std.proofs.Common.{◌≡◌, ◌≢◌, ℕ, ◌+◌, ◌<◌, Bool, true, false, List, [], ◌∷◌, ◌++◌, length, map, take, drop, get_or, Option, Some, None, refl, ap, sym, subst, ◌∙◌, arith, add-one, append_assoc, append-nil}
+use Rattle.std.proofs.Common.{◌≡◌, ◌≢◌, ℕ, ◌+◌, ◌<◌, Bool, true, List, [], ◌∷◌, ◌++◌, length, map, take, drop, get_or, Some, None, refl, ap, sym, subst, ◌∙◌, arith, add-one, append_assoc, append-nil}
 use Rattle.std.proofs.Math.Seq.{take-suc, take-length}
 use Rattle.std.proofs.lemmas.List.{map-append, take-append-drop}
-use Rattle.std.specs.Prelude.{ℤ, pos, ◌||◌, if◌then◌else◌, is_some}
-use Rattle.std.specs.Option.{option_map, option_or}
-use Rattle.std.specs.List.{list_any, find}
+use Rattle.std.specs.Prelude.{ℤ, pos, ◌||◌, is_some}
+use Rattle.std.specs.Option.{option_or}
+use Rattle.std.specs.List.{list_any}
 use Rattle.std.specs.Str.{bytes_eq}
 use Rattle.std.proofs.lemmas.Slice.Eq.{bytes_eq-Decides}
-use Rattle.std.proofs.lemmas.List.Folds.{find-append, list_any-append}
-use Rattle.std.proofs.lemmas.Grind.{common_steps}
+use Rattle.std.proofs.lemmas.List.Folds.{list_any-append}
 use Rattle.asm_parse.specs.declared.fault.AsmCause.{AsmCause}
 use Rattle.asm_parse.specs.declared.fault.AsmFault.{AsmFault}
-use Rattle.asm_parse.specs.declared.lexeme.Lexeme as written
-use Rattle.asm_parse.specs.declared.names.Names.{Names}
-use Rattle.asm_parse.specs.declared.names.Named.{Named}
-use Rattle.asm_parse.specs.Numbers.{value_in}
-use Rattle.asm_parse.specs.Operands.{Lexeme}
-use Rattle.asm_parse.specs.Meanings.{lexeme, lexemes}
+use Rattle.asm_operands.specs.declared.lexeme.Lexeme as written
+use Rattle.asm_operands.specs.declared.names.Named.{Named}
+use Rattle.asm_operands.specs.Numbers.{value_in}
+use Rattle.asm_operands.specs.Operands.{Lexeme}
+use Rattle.asm_operands.specs.Meanings.{lexeme, lexemes}
 use Rattle.asm_parse.specs.Assembly.{Statement, at_line, defined_by, equs_of, first_twice}
-use Rattle.asm_parse.specs.NameTable.{named, HasNames, HasConstants, constant_value}
+use Rattle.asm_operands.specs.NameTable.{NamesValue, named}
 use Rattle.asm_link.specs.Defined.{names_in, labelled, constant_if, Defines, RefusesTwice}
 
 abbrev pub is_known : List (List ℕ) → List ℕ → Bool
@@ -58,7 +56,7 @@ found_first number known (x ∷ xs) ys fault some = grind (arith, some, found_fi
 
 -- ---- defining names
 
-pub defines_one : (old new : Names) (x : Lexeme) (value : Named) → named old x.text ≡ None → named new x.text ≡ Some value
+pub defines_one : (old new : NamesValue) (x : Lexeme) (value : Named) → named old x.text ≡ None → named new x.text ≡ Some value
     → ((other : List ℕ) → other ≢ x.text → named new other ≡ named old other) → Defines old new (x ∷ []) ((x.text, value.value) ∷ []) (constant_if x.text value)
 unfolding first_twice
 defines_one old new x value none some others names equs has constants = (
@@ -67,7 +65,7 @@ defines_one old new x value none some others names equs has constants = (
   (λ name. grind (arith, bytes_eq-Decides x.text name, none, some, others name, constants name, constants x.text, value_behind equs (constant_if x.text value) name)),
 )
 
-pub refuses_one : (old : Names) (number : ℕ) (x : Lexeme) (fault : AsmFault) → is_some (named old x.text) ≡ true → fault ≡ AsmFault.At number (AsmCause.Twice x.column) → RefusesTwice old number (x ∷ []) fault
+pub refuses_one : (old : NamesValue) (number : ℕ) (x : Lexeme) (fault : AsmFault) → is_some (named old x.text) ≡ true → fault ≡ AsmFault.At number (AsmCause.Twice x.column) → RefusesTwice old number (x ∷ []) fault
 unfolding first_twice
 refuses_one old number x fault some e names equs has constants = grind (arith, some, e, has x.text, known_has_value names x.text)
 
@@ -87,7 +85,7 @@ known_more : (names more : List (List ℕ × ℤ)) (xs : List Lexeme) (name : Li
 known_more names more xs name same = ap (λ (k : List (List ℕ)). is_known k name) (names_append names more ∙ ap (λ (k : List (List ℕ)). names_in names ++ k) same)
     ∙ list_any-append (bytes_eq name) (names_in names) (map (λ x. x.text) xs) ∙ ap (λ (b : Bool). is_known (names_in names) name || b) (named_any name xs)
 
-pub defines_more : (old mid new : Names) (xs ys : List Lexeme) (more others equs constants : List (List ℕ × ℤ)) → AreNamed more xs → Defines old mid xs more equs → Defines mid new ys others constants
+pub defines_more : (old mid new : NamesValue) (xs ys : List Lexeme) (more others equs constants : List (List ℕ × ℤ)) → AreNamed more xs → Defines old mid xs more equs → Defines mid new ys others constants
     → Defines old new (xs ++ ys) (more ++ others) (equs ++ constants)
 defines_more old mid new xs ys more others equs constants same first second names known has consts =
     let a = first names known has consts in
@@ -97,17 +95,17 @@ defines_more old mid new xs ys more others equs constants same first second name
       (λ name. b.2 name ∙ ap (λ (k : List (List ℕ × ℤ)). value_in k name) (append_assoc known equs constants)),
     )
 
-pub refuses_more : (old mid : Names) (number : ℕ) (xs ys : List Lexeme) (more equs : List (List ℕ × ℤ)) (fault : AsmFault) → AreNamed more xs → Defines old mid xs more equs → RefusesTwice mid number ys fault
+pub refuses_more : (old mid : NamesValue) (number : ℕ) (xs ys : List Lexeme) (more equs : List (List ℕ × ℤ)) (fault : AsmFault) → AreNamed more xs → Defines old mid xs more equs → RefusesTwice mid number ys fault
     → RefusesTwice old number (xs ++ ys) fault
 refuses_more old mid number xs ys more equs fault same first second names known has consts =
     let a = first names known has consts in
     ap (at_line number) (twice_behind (names_in names) (names_in (names ++ more)) xs ys a.0 (λ name. known_more names more xs name same)) ∙ second (names ++ more) (known ++ equs) a.1 a.2
 
-pub refuses_first : (old : Names) (number : ℕ) (xs ys : List Lexeme) (fault : AsmFault) → RefusesTwice old number xs fault → RefusesTwice old number (xs ++ ys) fault
+pub refuses_first : (old : NamesValue) (number : ℕ) (xs ys : List Lexeme) (fault : AsmFault) → RefusesTwice old number xs fault → RefusesTwice old number (xs ++ ys) fault
 refuses_first old number xs ys fault first names known has consts = found_first number (names_in names) xs ys fault (first names known has consts)
 
 -- a statement that defines no name
-pub defines_none : (old : Names) (does : Statement) → defined_by does ≡ [] → equs_of does ≡ [] → Defines old old (defined_by does) (equs_of does) (equs_of does)
+pub defines_none : (old : NamesValue) (does : Statement) → defined_by does ≡ [] → equs_of does ≡ [] → Defines old old (defined_by does) (equs_of does) (equs_of does)
 unfolding first_twice
 defines_none old does a b names equs has consts = rw a (rw b (refl, (λ name. has name ∙ ap (λ (k : List (List ℕ × ℤ)). value_in k name) (sym (append-nil names))), (λ name. consts name ∙ ap (λ (k : List (List ℕ × ℤ)). value_in k name) (sym (append-nil equs)))))
 
@@ -120,7 +118,7 @@ labelled_named (x ∷ xs) address = grind (arith, labelled_named xs address)
 labels_more : (labels : List written.Lexeme) (i : ℕ) (d : written.Lexeme) → i < length labels → lexemes (take (i + 1) labels) ≡ lexemes (take i labels) ++ lexeme (get_or labels i d) ∷ []
 labels_more labels i d lt = rw add-one (ap lexemes (take-suc labels i d lt) ∙ map-append lexeme (take i labels) (get_or labels i d ∷ []))
 
-pub defines_next : (old mid new : Names) (labels : List written.Lexeme) (i : ℕ) (d : written.Lexeme) (address : ℕ) (value : ℤ) → value ≡ pos address → i < length labels
+pub defines_next : (old mid new : NamesValue) (labels : List written.Lexeme) (i : ℕ) (d : written.Lexeme) (address : ℕ) (value : ℤ) → value ≡ pos address → i < length labels
     → Defines old mid (lexemes (take i labels)) (labelled (lexemes (take i labels)) address) []
     → Defines mid new (lexeme (get_or labels i d) ∷ []) (((lexeme (get_or labels i d)).text, value) ∷ []) []
     → Defines old new (lexemes (take (i + 1) labels)) (labelled (lexemes (take (i + 1) labels)) address) []
@@ -131,7 +129,7 @@ defines_next old mid new labels i d address value same lt first given =
     let e : labelled (xs ++ x ∷ []) address ≡ labelled xs address ++ (x.text, pos address) ∷ [] = map-append (λ label. (label.text, pos address)) xs (x ∷ []) in
     rw (labels_more labels i d lt) (rw e (defines_more old mid new xs (x ∷ []) (labelled xs address) ((x.text, pos address) ∷ []) [] [] (labelled_named xs address) first second))
 
-pub refuses_next : (old mid : Names) (number : ℕ) (labels : List written.Lexeme) (i : ℕ) (d : written.Lexeme) (address : ℕ) (fault : AsmFault) → i < length labels
+pub refuses_next : (old mid : NamesValue) (number : ℕ) (labels : List written.Lexeme) (i : ℕ) (d : written.Lexeme) (address : ℕ) (fault : AsmFault) → i < length labels
     → Defines old mid (lexemes (take i labels)) (labelled (lexemes (take i labels)) address) []
     → RefusesTwice mid number (lexeme (get_or labels i d) ∷ []) fault
     → RefusesTwice old number (lexemes labels) fault
@@ -143,6 +141,6 @@ refuses_next old mid number labels i d address fault lt first second =
     ap (λ (k : List Lexeme). k ++ lexemes (drop (i + 1) labels)) (sym (labels_more labels i d lt)) ∙ sym (map-append lexeme (take (i + 1) labels) (drop (i + 1) labels)) ∙ ap lexemes (take-append-drop (i + 1) labels) in
     subst (λ (k : List Lexeme). RefusesTwice old number k fault) cut (refuses_first old number (xs ++ x ∷ []) (lexemes (drop (i + 1) labels)) fault found)
 
-pub defines_all : (old new : Names) (labels : List written.Lexeme) (i : ℕ) (address : ℕ) → i ≡ length labels
+pub defines_all : (old new : NamesValue) (labels : List written.Lexeme) (i : ℕ) (address : ℕ) → i ≡ length labels
     → Defines old new (lexemes (take i labels)) (labelled (lexemes (take i labels)) address) [] → Defines old new (lexemes labels) (labelled (lexemes labels) address) []
 defines_all old new labels i address end so_far = subst (λ (k : List written.Lexeme). Defines old new (lexemes k) (labelled (lexemes k) address) []) (ap (λ (k : ℕ). take k labels) end ∙ take-length labels) so_far

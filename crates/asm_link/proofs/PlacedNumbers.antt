@@ -1,17 +1,17 @@
 -- Numbers of a line in their places.
-use Rattle.std.proofs.Common.{◌≡◌, ℕ, ◌+◌, List, [], ◌∷◌, ◌++◌, map, Option, Some, None, refl, ap, sym, ◌∙◌}
+use Rattle.std.proofs.Common.{◌≡◌, ℕ, ◌+◌, List, [], ◌∷◌, ◌++◌, map, Option, None, refl, ap, ◌∙◌}
 use Rattle.std.specs.Prelude.{ℤ, pos}
 use Rattle.std.specs.Option.{option_or}
 use Rattle.asm_parse.specs.declared.fault.AsmCause.{AsmCause}
-use Rattle.asm_parse.specs.declared.expr.Expr as written
+use Rattle.asm_operands.specs.declared.expr.Expr as written
 use Rattle.asm_parse.specs.declared.item.Width.{Width}
-use Rattle.asm_parse.specs.Meanings.{expr}
-use Rattle.asm_parse.specs.Operands.{expr_value}
+use Rattle.asm_operands.specs.Meanings.{expr}
+use Rattle.asm_operands.specs.Operands.{expr_value}
 use Rattle.asm_parse.specs.Mnemonics.{Item}
 use Rattle.asm_parse.specs.Items.{bytes_in, fits_in, number_of}
 use Rattle.asm_parse.specs.Assembly.{first_of, placed_from, unknown_in, unknown_item, value_fault, named_number_fault, reach_fault}
 use Rattle.asm_link.specs.Placed.{wide, faults_of}
-use Rattle.asm_link.proofs.FirstOf.{first_append}
+use Rattle.asm_link.proofs.FirstOf.{first_append, or_none}
 
 -- numbers of a line, each with its bytes
 abbrev pub items_by : Width → List written.Expr → List (ℕ × Item)
@@ -34,10 +34,6 @@ no_reach : (names : List (List ℕ × ℤ)) (width : Width) (address : ℕ) (num
 unfolding placed_from first_of
 no_reach names width address [] = refl
 no_reach names width address (e ∷ numbers) = no_reach names width (address + bytes_in width) numbers
-
-or_none : {A : Type 0} (x : Option A) → option_or x None ≡ x
-or_none None = refl
-or_none (Some a) = refl
 
 pub numbers_placed : (names : List (List ℕ × ℤ)) (width : Width) (address : ℕ) (numbers : List written.Expr)
     → faults_of names (placed_from address (items_by width numbers))

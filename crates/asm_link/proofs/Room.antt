@@ -1,5 +1,5 @@
 -- Lines that are kept have room for their bytes.
-use Rattle.std.proofs.Common.{Vec, Global, ◌≡◌, ℕ, ◌+◌, ◌*◌, ◌<◌, ◌≤◌, Bool, true, false, List, [], ◌∷◌, ◌++◌, length, map, get_or, Option, refl, sym, ap, subst, ◌∙◌, arith}
+use Rattle.std.proofs.Common.{◌≡◌, ℕ, ◌+◌, ◌<◌, ◌≤◌, Bool, true, false, List, [], ◌∷◌, ◌++◌, length, get_or, Option, refl, ap, ◌∙◌, arith}
 use Rattle.std.specs.Prelude.{ℤ, not, ◌==◌, if◌then◌else◌, IsSome}
 use Rattle.std.specs.List.{All, flat_map}
 use Rattle.std.proofs.lemmas.List.Elements.{All-nil, All-cons, All-append}
@@ -59,17 +59,17 @@ room_if names memory false text at statement sound within named ends = ((λ k lt
 
 -- a line's bytes are named where all of its size is
 pub has_room : (names : List (List ℕ × ℤ)) (memory : List (Option ℕ)) (number : ℕ) (place : Place) (statement : read.Statement) → IsSound place.in_data statement → here place ≤ MAX_MEMORY
-    → ((k : ℕ) → place.in_data ≡ true → k < size_of (statement_of statement) → IsSome (byte_of memory (place.memory + k))) → (place.in_data ≡ true → place.memory + size_of (statement_of statement) ≤ MAX_MEMORY)
+    → ((k : ℕ) → place.in_data ≡ true → k < size_of (statement_of statement) → IsSome (byte_of memory (place.data_at + k))) → (place.in_data ≡ true → place.data_at + size_of (statement_of statement) ≤ MAX_MEMORY)
     → HasRoom names memory (record { number = number; in_data = place.in_data; address = here place; does = statement })
 has_room names memory number place statement sound within named ends =
-    room_if names memory place.in_data place.text place.memory statement sound within named ends
+    room_if names memory place.in_data place.text_at place.data_at statement sound within named ends
 
 still_room : (names : List (List ℕ × ℤ)) (old new : List (Option ℕ)) (step : Step) → ((address : ℕ) → IsSome (byte_of old address) → IsSome (byte_of new address)) → HasRoom names old step → HasRoom names new step
 still_room names old new step still room = ((λ k lt. still (step.address + k) (room.0 k lt)), room.1)
 
 pub room_more : (names : List (List ℕ × ℤ)) (old new : List (Option ℕ)) (steps after : List Step) (number : ℕ) (place : Place) (statement : read.Statement) → after ≡ steps ++ kept_of number place statement
     → IsSound place.in_data statement → here place ≤ MAX_MEMORY
-    → ((k : ℕ) → place.in_data ≡ true → k < size_of (statement_of statement) → IsSome (byte_of new (place.memory + k))) → (place.in_data ≡ true → place.memory + size_of (statement_of statement) ≤ MAX_MEMORY)
+    → ((k : ℕ) → place.in_data ≡ true → k < size_of (statement_of statement) → IsSome (byte_of new (place.data_at + k))) → (place.in_data ≡ true → place.data_at + size_of (statement_of statement) ≤ MAX_MEMORY)
     → ((address : ℕ) → IsSome (byte_of old address) → IsSome (byte_of new address)) → All (HasRoom names old) steps → All (HasRoom names new) after
 room_more names old new steps after number place statement e sound within named ends still all =
     rw e (All-append (HasRoom names new) steps (kept_of number place statement) (λ k d lt. still_room names old new (get_or steps k d) still (all k d lt))
@@ -78,7 +78,7 @@ room_more names old new steps after number place statement e sound within named 
 pub here_within : (place : Place) → IsWithin place → here place ≤ MAX_MEMORY
 here_within place within = grind (arith, within.0, within.1)
 
-pub ends_within : (place : Place) (statement : Statement) → IsWithin place → IsWithin (moved statement place) → place.in_data ≡ true → place.memory + size_of statement ≤ MAX_MEMORY
+pub ends_within : (place : Place) (statement : Statement) → IsWithin place → IsWithin (moved statement place) → place.in_data ≡ true → place.data_at + size_of statement ≤ MAX_MEMORY
 ends_within place Nothing within after here = omega (arith, within.1)
 ends_within place (Switch to_data) within after here = omega (arith, within.1)
 ends_within place (Emit items) within after here = (rw here at after).1

@@ -1,5 +1,5 @@
 -- How many bytes and words the lines of a source come to.
-use Rattle.std.proofs.Common.{◌≡◌, ℕ, ◌+◌, ◌*◌, ◌<◌, ◌≤◌, Bool, true, false, List, [], ◌∷◌, ◌++◌, length, map, Option, Some, None, refl, ap, sym, subst, ◌∙◌, arith, suc, append-nil, length-append}
+use Rattle.std.proofs.Common.{◌≡◌, ℕ, ◌+◌, ◌*◌, ◌≤◌, Bool, true, false, List, [], ◌∷◌, length, map, Option, Some, None, refl, ap, sym, ◌∙◌, arith, suc, length-append}
 use Rattle.std.specs.Prelude.{ℤ, cond, if◌then◌else◌, replicate}
 use Rattle.std.specs.Option.{option_or}
 use Rattle.std.proofs.lemmas.List.{length-replicate, length-map}
@@ -24,7 +24,7 @@ abbrev pub widths : List (ℕ × Item) → ℕ
 widths items = sum_by (λ item. item.0) items
 
 -- a statement's size: its zeros, and the widths of its items
-zeros_and_items : (statement : Statement) → length (zeros_of statement) + widths (items_of statement) ≡ size_of statement
+pub zeros_and_items : (statement : Statement) → length (zeros_of statement) + widths (items_of statement) ≡ size_of statement
 zeros_and_items Nothing = refl
 zeros_and_items (Switch to_data) = refl
 zeros_and_items (Emit items) = omega arith
@@ -35,7 +35,7 @@ zeros_and_items (Zeros count) =
 zeros_and_items (MoveTo to) = refl
 zeros_and_items (Define name n) = refl
 
-items_within : (statement : Statement) → widths (items_of statement) ≤ size_of statement
+pub items_within : (statement : Statement) → widths (items_of statement) ≤ size_of statement
 items_within statement = omega (arith, zeros_and_items statement)
 
 -- numbers of data have as many bytes as they are wide
@@ -120,9 +120,9 @@ no_byte_if true address at = byte_none address at
 no_byte_if false address at = refl
 
 abbrev pub own_byte : List (List ℕ × ℤ) → Step → ℕ → Option ℕ
-own_byte names step address = if step.place.in_data then byte_in address (step.place.memory, flat_map code_bytes (codes_of names step)) else None
+own_byte names step address = if step.place.in_data then byte_in address (step.place.data_at, flat_map code_bytes (codes_of names step)) else None
 
-data_address : (step : Step) → step.place.in_data ≡ true → here step.place ≡ step.place.memory
+data_address : (step : Step) → step.place.in_data ≡ true → here step.place ≡ step.place.data_at
 data_address step data_here = rw data_here refl
 
 kept_byte : (names others : List (List ℕ × ℤ)) (step : kept.Step) (of : Step) (address : ℕ) → AreSame names others → IsStep step of
@@ -131,7 +131,7 @@ kept_byte names others step of address same is =
     let codes : flat_map code_bytes (step_codes names step) ≡ flat_map code_bytes (codes_of others of) = ap (flat_map code_bytes) (codes_are names others step of same is) in
     ap (λ (k : List ℕ). byte_in address (step.address, (if step.in_data then k else []))) codes
     ∙ ap (λ (k : Bool). byte_in address (step.address, (if k then flat_map code_bytes (codes_of others of) else []))) is.in_data
-    ∙ byte_if of.place.in_data address step.address of.place.memory (flat_map code_bytes (codes_of others of)) (λ here. is.address ∙ data_address of here)
+    ∙ byte_if of.place.in_data address step.address of.place.data_at (flat_map code_bytes (codes_of others of)) (λ here. is.address ∙ data_address of here)
 
 kept_last : (names others : List (List ℕ × ℤ)) (steps : List kept.Step) (of : List Step) (address : ℕ) → AreSame names others → AllZip IsStep steps of → last_byte names steps address ≡ last_of others of address
 unfolding last_byte last_of
@@ -146,7 +146,7 @@ or_none None = refl
 or_none (Some a) = refl
 
 no_byte : (names : List (List ℕ × ℤ)) (step : Step) (address : ℕ) → has_items step ≡ false → own_byte names step address ≡ None
-no_byte names step address none = rw (no_codes names step none) (no_byte_if step.place.in_data address step.place.memory)
+no_byte names step address none = rw (no_codes names step none) (no_byte_if step.place.in_data address step.place.data_at)
 
 filter_last_if : (names : List (List ℕ × ℤ)) (step : Step) (steps : List Step) (address : ℕ) (test : Bool) → has_items step ≡ test → last_of names (filter has_items steps) address ≡ last_of names steps address
     → last_of names (cond test (step ∷ filter has_items steps) (filter has_items steps)) address ≡ option_or (last_of names steps address) (own_byte names step address)

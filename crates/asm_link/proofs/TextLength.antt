@@ -20,7 +20,7 @@ in_text step = not step.place.in_data
 abbrev words : List (List ℕ × ℤ) → List Step → ℕ
 words names steps = length (flat_map (codes_of names) (filter in_text steps))
 
-text_moved : (does : Statement) (place : Place) → place.in_data ≡ false → (moved does place).text ≡ place.text + size_of does
+pub text_moved : (does : Statement) (place : Place) → place.in_data ≡ false → (moved does place).text_at ≡ place.text_at + size_of does
 text_moved Nothing place text = grind (arith, text)
 text_moved (Switch in_data) place text = grind (arith, text)
 text_moved (Emit items) place text = grind (arith, text)
@@ -28,7 +28,7 @@ text_moved (Zeros count) place text = grind (arith, text)
 text_moved (MoveTo address) place text = grind (arith, text)
 text_moved (Define name n) place text = grind (arith, text)
 
-text_stays : (does : Statement) (place : Place) → place.in_data ≡ true → (moved does place).text ≡ place.text
+pub text_stays : (does : Statement) (place : Place) → place.in_data ≡ true → (moved does place).text_at ≡ place.text_at
 text_stays Nothing place there = grind (arith, there)
 text_stays (Switch in_data) place there = grind (arith, there)
 text_stays (Emit items) place there = grind (arith, there)
@@ -37,7 +37,7 @@ text_stays (MoveTo address) place there = grind (arith, there)
 text_stays (Define name n) place there = grind (arith, there)
 
 one_more : (names : List (List ℕ × ℤ)) (step : Step) (steps : List Step) (in_data : Bool) → step.place.in_data ≡ in_data → IsLong names step
-    → step.place.text + 4 * words names (step ∷ steps) ≤ (moved step.does step.place).text + 4 * words names steps
+    → step.place.text_at + 4 * words names (step ∷ steps) ≤ (moved step.does step.place).text_at + 4 * words names steps
 one_more names step steps true there long = rw (text_stays step.does step.place there) (rw there (omega arith))
 one_more names step steps false text long =
     let kept : filter in_text (step ∷ steps) ≡ step ∷ filter in_text steps = ap (λ (b : Bool). cond (not b) (step ∷ filter in_text steps) (filter in_text steps)) text in
@@ -46,7 +46,7 @@ one_more names step steps false text long =
     rw (text_moved step.does step.place text) (rw more (omega (arith, long text)))
 
 from : (names : List (List ℕ × ℤ)) (number : ℕ) (b : Before) (lines : List (List ℕ)) → All (IsLong names) (steps_from number b lines)
-    → b.place.text + 4 * words names (steps_from number b lines) ≤ (before_of b (steps_from number b lines)).place.text
+    → b.place.text_at + 4 * words names (steps_from number b lines) ≤ (before_of b (steps_from number b lines)).place.text_at
 unfolding steps_from before_of step_of after_step
 from names number b [] long = omega arith
 from names number b (line ∷ lines) long =
@@ -57,6 +57,6 @@ from names number b (line ∷ lines) long =
     omega (arith, here, next)
 
 pub text_length : (source : List ℕ) (names : List (List ℕ × ℤ)) → All (IsLong names) (steps_of source)
-    → 4 * length (flat_map (codes_of names) (filter (λ step. not step.place.in_data) (steps_of source))) ≤ (before_of at_start (steps_of source)).place.text
+    → 4 * length (flat_map (codes_of names) (filter (λ step. not step.place.in_data) (steps_of source))) ≤ (before_of at_start (steps_of source)).place.text_at
 unfolding steps_of
 text_length source names long = omega (arith, from names 1 at_start (lines_of source) long)

@@ -1,12 +1,13 @@
 -- What the second round makes of the lines that are kept.
-use Rattle.std.specs.Prelude.{◌≡◌, ℕ, ◌+◌, ◌<◌, ◌≤◌, ℤ, Bool, true, if◌then◌else◌, List, [], ◌∷◌, length, Option, None, IsSome}
+use Rattle.std.specs.Prelude.{◌≡◌, ℕ, ◌+◌, ◌<◌, ◌≤◌, ℤ, if◌then◌else◌, List, [], ◌∷◌, length, map, Option, None, IsSome}
 use Rattle.std.specs.Option.{option_or}
 use Rattle.std.specs.List.{flat_map}
 use Rattle.pmsi_model.specs.declared.limits.TheConstants.{MAX_MEMORY}
 use Rattle.asm_parse.specs.declared.fault.AsmCause.{AsmCause}
 use Rattle.asm_parse.specs.Mnemonics.{Code, Item}
 use Rattle.asm_parse.specs.Items.{IsSound, statement_of}
-use Rattle.asm_parse.specs.Assembly.{byte_in, code_bytes, items_of}
+use Rattle.asm_parse.specs.declared.fault.AsmFault.{AsmFault}
+use Rattle.asm_parse.specs.Assembly.{at_line, byte_in, code_bytes, first_of, items_of}
 use Rattle.asm_link.specs.declared.step.Step.{Step}
 use Rattle.asm_link.specs.Bytes.{byte_of}
 use Rattle.asm_link.specs.Placed.{codes_in, faults_in}
@@ -29,6 +30,10 @@ text_codes names step = if step.in_data then [] else step_codes names step
 abbrev pub data_bytes : List (List ℕ × ℤ) → Step → List ℕ
 data_bytes names step = if step.in_data then flat_map code_bytes (step_codes names step) else []
 
+-- the first line with a fault
+abbrev pub first_later : List (List ℕ × ℤ) → List Step → Option AsmFault
+first_later names steps = first_of (map (λ step. at_line step.number (step_fault names step)) steps)
+
 -- the byte that the last line with a byte at an address puts there
 unfoldable pub last_byte : List (List ℕ × ℤ) → List Step → ℕ → Option ℕ
 last_byte names [] address = None
@@ -41,8 +46,14 @@ IsKept step = IsSound step.in_data step.does × (step.address ≤ MAX_MEMORY)
 -- the bytes of a line are named, and end within the greatest memory
 abbrev pub HasRoom : List (List ℕ × ℤ) → List (Option ℕ) → Step → Type 0
 HasRoom names memory step =
-    ((k : ℕ) → k < length (data_bytes names step) → IsSome (byte_of memory (step.address + k))) × (step.address + length (data_bytes names step) ≤ MAX_MEMORY)
+    ((k : ℕ) → k < length (data_bytes names step) → IsSome (byte_of memory (step.address + k)))
+    × (step.address + length (data_bytes names step) ≤ MAX_MEMORY)
 
 -- a line's bytes were put
 abbrev pub PutsBytes : List (List ℕ × ℤ) → Step → List (Option ℕ) → List (Option ℕ) → Type 0
-PutsBytes names step old new = (address : ℕ) → byte_of new address ≡ option_or (byte_in address (step.address, data_bytes names step)) (byte_of old address)
+PutsBytes names step old new =
+    (address : ℕ) → byte_of new address ≡ option_or (byte_in address (step.address, data_bytes names step)) (byte_of old address)
+
+-- the bytes of all these lines were put, in their order
+abbrev pub PutsAll : List (List ℕ × ℤ) → List Step → List (Option ℕ) → List (Option ℕ) → Type 0
+PutsAll names steps old new = (address : ℕ) → byte_of new address ≡ option_or (last_byte names steps address) (byte_of old address)

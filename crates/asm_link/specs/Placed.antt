@@ -2,10 +2,10 @@
 use Rattle.std.specs.Prelude.{◌≡◌, ℕ, ℤ, pos, List, map, ◌++◌, Option}
 use Rattle.std.specs.List.{AllZip}
 use Rattle.pmsi_model.specs.Words.{word_of, bytes_of}
-use Rattle.asm_parse.specs.declared.expr.Expr as written
+use Rattle.asm_operands.specs.declared.expr.Expr as written
 use Rattle.asm_parse.specs.declared.item.Width.{Width}
-use Rattle.asm_parse.specs.Meanings.{expr}
-use Rattle.asm_parse.specs.Operands.{expr_value}
+use Rattle.asm_operands.specs.Meanings.{expr}
+use Rattle.asm_operands.specs.Operands.{expr_value}
 use Rattle.asm_parse.specs.Items.{bytes_in, fits_in}
 use Rattle.asm_parse.specs.declared.fault.AsmCause.{AsmCause}
 use Rattle.asm_parse.specs.Mnemonics.{Code, Item}

@@ -1,5 +1,5 @@
 -- Ranges of instructions' numbers, and what each instruction's registers keep to.
-use Rattle.std.specs.Prelude.{ℕ, ◌<◌, ℤ, Bool, true}
+use Rattle.std.specs.Prelude.{◌<◌, ℤ, Bool, true}
 use Rattle.pmsi_model.specs.declared.instr.Instr.{Instr}
 use Rattle.pmsi_model.specs.declared.instr.Instr.TheVariants.{Lui, Auipc, Jal, Jalr, Branch, Load, Store, OpImm, Op, Amo, Fence, Ecall, Ebreak}
 use Rattle.asm_parse.specs.Mnemonics.{Item, Known, Numbered, Distant}

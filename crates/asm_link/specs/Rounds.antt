@@ -1,12 +1,12 @@
 -- What the two rounds of the code have done after some lines.
 use Rattle.std.specs.Prelude.{◌≡◌, ℕ, ℤ, ◌+◌, ◌*◌, ◌≤◌, Bool, not, nat_lt, ◌&&◌, ◌==◌, List, [], ◌∷◌, ◌++◌, length, if◌then◌else◌, Option, Some, None}
-use Rattle.std.specs.List.{All, AllZip, filter, fold}
+use Rattle.std.specs.List.{All, AllZip, filter}
 use Rattle.asm_parse.specs.declared.fault.AsmCause.{AsmCause}
 use Rattle.asm_parse.specs.declared.fault.AsmFault.{AsmFault}
 use Rattle.asm_parse.specs.declared.place.Place.{Place}
 use Rattle.pmsi_model.specs.declared.limits.TheConstants.{MAX_TEXT_WORDS, MAX_MEMORY}
-use Rattle.asm_parse.specs.NameTable.{HasNames, HasConstants}
-use Rattle.asm_parse.specs.Assembly.{Before, at_start, after_step, step_of, at_line, first_of, Step, Statement, has_byte, here, items_of, moved, text_fault, range_fault, overlap_fault, size_of}
+use Rattle.asm_operands.specs.NameTable.{HasNames, HasConstants}
+use Rattle.asm_parse.specs.Assembly.{Before, at_start, after_step, step_of, at_line, first_of, Step, Statement, has_byte, here, items_of, text_fault, range_fault, overlap_fault, size_of}
 use Rattle.asm_parse.specs.Items.{IsSound, statement_of}
 use Rattle.asm_link.specs.declared.layout.Layout.{Layout}
 use Rattle.asm_link.specs.declared.step.Step as kept
@@ -25,12 +25,13 @@ has_items step = not (length (items_of step.does) == 0)
 
 -- the bytes that a statement names, in its place
 abbrev pub runs_of : Place → Statement → List (ℕ × ℕ)
-runs_of place does = if place.in_data && nat_lt 0 (size_of does) then (place.memory, size_of does) ∷ [] else []
+runs_of place does = if place.in_data && nat_lt 0 (size_of does) then (place.data_at, size_of does) ∷ [] else []
 
 -- what is kept of a statement in its place
 abbrev pub kept_of : ℕ → Place → read.Statement → List kept.Step
 kept_of number place does =
-    if not (length (items_of (statement_of does)) == 0) then record { number = number; in_data = place.in_data; address = here place; does = does } ∷ [] else []
+    if not (length (items_of (statement_of does)) == 0) then record { number = number; in_data = place.in_data; address = here place; does = does } ∷ []
+    else []
 
 -- what is kept of a step
 pub record IsStep (step : kept.Step) (of : Step) : Type 0 where
@@ -46,7 +47,7 @@ IsNamed memory runs = (address : ℕ) → byte_of memory address ≡ (if has_byt
 
 -- the next addresses are within their spaces
 abbrev pub IsWithin : Place → Type 0
-IsWithin place = (place.text ≤ 4 * MAX_TEXT_WORDS) × (place.memory ≤ MAX_MEMORY)
+IsWithin place = (place.text_at ≤ 4 * MAX_TEXT_WORDS) × (place.data_at ≤ MAX_MEMORY)
 
 -- what is wrong with a statement's size, or with the bytes that it names
 abbrev pub room_fault : Before → Statement → Option AsmCause

@@ -1,6 +1,7 @@
--- The names that a table holds, as a list.
+-- The values of names.
 use Rattle.std.specs.Prelude.{ℕ, ℤ, List, map}
-use Rattle.asm_parse.specs.declared.names.Names.{Names}
+use Rattle.asm_operands.specs.NameTable.{NamesValue}
 
-unfoldable pub held : Names → List (List ℕ × ℤ)
-held names = map (λ entry. (entry.0.now, entry.1.value)) names.table.entries
+-- names with their values
+unfoldable pub held : NamesValue → List (List ℕ × ℤ)
+held names = map (λ entry. (entry.0, entry.1.value)) names

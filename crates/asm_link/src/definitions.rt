@@ -2,10 +2,10 @@
 
 ghost use Rattle.std.specs.Prelude.{◌≡◌, ◌≢◌, ◌≤◌, [], ◌∷◌, IfErr, OnOk};
 ghost use Rattle.pmsi_model.specs.declared.limits.TheConstants.{MAX_MEMORY};
-ghost use Rattle.asm_parse.specs.Meanings.{lexeme, lexemes};
+ghost use Rattle.asm_operands.specs.Meanings.{lexeme, lexemes};
 ghost use Rattle.asm_parse.specs.Items.{statement_of};
-ghost use Rattle.asm_parse.specs.Assembly.{defined_by, equs_of};
-ghost use Rattle.asm_link.specs.Defined.{Defines, RefusesTwice, constant_if, labelled};
+ghost use Rattle.asm_parse.specs.Assembly.{defined_by};
+ghost use Rattle.asm_link.specs.Defined.{Defines, DefinesConstant, DefinesOne, RefusesTwice, labelled};
 
 use asm_parse::{AsmCause, AsmFault, Lexeme, Named, Names, Number, Statement};
 
@@ -36,7 +36,7 @@ pub(crate) fn define_constant<'a>(
     number: u32,
     does: &Statement<'a>,
 ) -> Result<(), AsmFault>
-    ensures ok { OnOk result (Defines names.old names.new (defined_by (statement_of does.now)) (equs_of (statement_of does.now)) (equs_of (statement_of does.now))) }
+    ensures ok { OnOk result (DefinesConstant names.old names.new (statement_of does.now)) }
     ensures twice { IfErr result (λ e. e ≢ AsmFault.NoMemory → RefusesTwice names.old number (defined_by (statement_of does.now)) e) }
 {
     let Statement::Define(name, value) = does else {
@@ -56,7 +56,7 @@ fn define<'a>(
     name: &Lexeme<'a>,
     value: Named,
 ) -> Result<(), AsmFault>
-    ensures ok { OnOk result (Defines names.old names.new (lexeme name.now ∷ []) ((name.now.text.now, value.value) ∷ []) (constant_if name.now.text.now value)) }
+    ensures ok { OnOk result (DefinesOne names.old names.new name.now value) }
     ensures twice { IfErr result (λ e. e ≢ AsmFault.NoMemory → RefusesTwice names.old number (lexeme name.now ∷ []) e) }
 {
     if names.get(name.text).is_some() {

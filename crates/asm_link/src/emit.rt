@@ -9,7 +9,7 @@ ghost use Rattle.asm_link.specs.Values.{held};
 ghost use Rattle.asm_link.specs.Bytes.{byte_of, Overwrites};
 ghost use Rattle.asm_link.specs.Placed.{Appends, codes_in, faults_in, number_bytes, number_word, unfit, wide};
 
-use crate::memory::Memory;
+use crate::byte_map::ByteMap;
 use crate::resolve::word_of_item;
 use crate::step::Step;
 use crate::values::value_or_zero;
@@ -80,7 +80,7 @@ fn word_of_number(width: Width, number: &Expr<'_>, names: &Names<'_>) -> u32
 
 /// Puts the bytes of a line of numbers where they are named.
 pub(crate) fn put_numbers(
-    memory: &mut Memory,
+    memory: &mut ByteMap,
     address: u32,
     width: Width,
     numbers: &[Expr<'_>],

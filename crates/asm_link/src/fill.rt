@@ -2,16 +2,14 @@
 
 ghost use Rattle.std.specs.Prelude.{◌≡◌, ◌≢◌, ℕ, ◌<◌, ◌^◌, map, true, None, Some, IfErr, IfOk, OnOk};
 ghost use Rattle.std.specs.List.{All, AllZip, flat_map};
-ghost use Rattle.std.specs.Option.{option_or};
-ghost use Rattle.asm_parse.specs.Assembly.{at_line, first_of, IsWordOf};
+ghost use Rattle.asm_parse.specs.Assembly.{at_line, IsWordOf};
 ghost use Rattle.asm_link.specs.Values.{held};
-ghost use Rattle.asm_link.specs.Bytes.{byte_of};
 ghost use Rattle.asm_link.specs.Placed.{Appends};
-ghost use Rattle.asm_link.specs.Filled.{HasRoom, IsKept, PutsBytes, last_byte, step_fault, text_codes};
+ghost use Rattle.asm_link.specs.Filled.{HasRoom, IsKept, PutsAll, PutsBytes, first_later, step_fault, text_codes};
 
+use crate::byte_map::ByteMap;
 use crate::emit::{push_text, put_numbers};
 use crate::later::later_fault;
-use crate::memory::Memory;
 use crate::step::Step;
 use asm_parse::{AsmFault, Names, Statement};
 use std::alloc::Global;
@@ -21,15 +19,15 @@ pub(crate) fn fill(
     alloc: Global,
     steps: &[Step<'_>],
     names: &Names<'_>,
-    memory: &mut Memory,
+    memory: &mut ByteMap,
 ) -> Result<Vec<u32>, AsmFault>
     requires kept { All IsKept steps.now }
     requires room { All (HasRoom (held names.now) memory.old) steps.now }
-    ensures fault { IfErr result (λ e. e ≢ AsmFault.NoMemory → first_of (map (λ step. at_line step.number (step_fault (held names.now) step)) steps.now) ≡ Some e) }
+    ensures fault { IfErr result (λ e. e ≢ AsmFault.NoMemory → first_later (held names.now) steps.now ≡ Some e) }
     ensures faultless { OnOk result (All (λ step. step_fault (held names.now) step ≡ None) steps.now) }
     ensures words { IfOk result (λ words. AllZip IsWordOf (flat_map (text_codes (held names.now)) steps.now) words.items) }
     ensures small { IfOk result (λ words. All (λ word. word < 2 ^ 32) words.items) }
-    ensures bytes { OnOk result ((address : ℕ) → byte_of memory.new address ≡ option_or (last_byte (held names.now) steps.now address) (byte_of memory.old address)) }
+    ensures bytes { OnOk result (PutsAll (held names.now) steps.now memory.old memory.new) }
 {
     let mut words = Vec::new(alloc);
     for step in steps {
@@ -43,7 +41,7 @@ fn add_step(
     step: &Step<'_>,
     names: &Names<'_>,
     words: &mut Vec<u32>,
-    memory: &mut Memory,
+    memory: &mut ByteMap,
 ) -> Result<(), AsmFault>
     requires kept { IsKept step.now }
     requires room { HasRoom (held names.now) memory.old step.now }
@@ -65,7 +63,7 @@ fn add_step(
 }
 
 /// Puts the bytes of a line of data where they are named.
-fn put_data(memory: &mut Memory, step: &Step<'_>, names: &Names<'_>)
+fn put_data(memory: &mut ByteMap, step: &Step<'_>, names: &Names<'_>)
     requires data { step.now.in_data ≡ true }
     requires kept { IsKept step.now }
     requires room { HasRoom (held names.now) memory.old step.now }

@@ -2,12 +2,12 @@
 
 ghost use Rattle.std.specs.Prelude.{◌≡◌, ◌≤◌, ◌++◌, [], ◌∷◌, map};
 ghost use Rattle.pmsi_model.specs.declared.limits.TheConstants.{MAX_MEMORY};
-ghost use Rattle.asm_parse.specs.Meanings.{expr};
-ghost use Rattle.asm_parse.specs.Operands.{expr_value};
+ghost use Rattle.asm_operands.specs.Meanings.{expr};
+ghost use Rattle.asm_operands.specs.Operands.{expr_value};
 ghost use Rattle.asm_parse.specs.Items.{fits_in, instrs_of, item_of, statement_of};
 ghost use Rattle.asm_parse.specs.Assembly.{first_of, items_of, placed_from, unknown_in, value_fault};
 ghost use Rattle.asm_link.specs.Values.{held};
-ghost use Rattle.asm_link.specs.Placed.{faults_of, wide};
+ghost use Rattle.asm_link.specs.Placed.{faults_of, unfit, wide};
 
 use crate::resolve::{number_fault, reach_fault, unknown_item};
 use crate::step::Step;
@@ -26,6 +26,7 @@ pub(crate) fn later_fault(step: &Step<'_>, names: &Names<'_>) -> Option<AsmCause
     }
 }
 
+/// What is wrong with the instructions of a line.
 fn instrs_fault(instrs: &Instrs<'_>, names: &Names<'_>, address: u32) -> Option<AsmCause>
     requires { address ≤ MAX_MEMORY }
     ensures { result ≡ faults_of (held names.now) (placed_from address (map (wide 4) (instrs_of instrs.now))) }
@@ -36,15 +37,21 @@ fn instrs_fault(instrs: &Instrs<'_>, names: &Names<'_>, address: u32) -> Option<
     }
 }
 
+/// What is wrong with one instruction at its address.
 #[tactic(auto, unfolding(asm_parse::specs::Assembly::first_of, asm_parse::specs::Assembly::placed_from, crate::specs::Placed::faults_of))]
 fn one_fault(item: &Item<'_>, names: &Names<'_>, address: u32) -> Option<AsmCause>
     ensures { result ≡ faults_of (held names.now) (placed_from address (map (wide 4) (item_of item.now ∷ []))) }
 {
-    unknown_item(item, names)
-        .or(number_fault(item, names))
-        .or(reach_fault(item, names, address))
+    if let Some(cause) = unknown_item(item, names) {
+        return Some(cause);
+    }
+    if let Some(cause) = number_fault(item, names) {
+        return Some(cause);
+    }
+    reach_fault(item, names, address)
 }
 
+/// What is wrong with two instructions, the first at this address.
 #[tactic(auto, unfolding(asm_parse::specs::Assembly::first_of, asm_parse::specs::Assembly::placed_from, crate::specs::Placed::faults_of))]
 fn two_faults(
     first: &Item<'_>,
@@ -55,19 +62,33 @@ fn two_faults(
     requires { address ≤ MAX_MEMORY }
     ensures { result ≡ faults_of (held names.now) (placed_from address (map (wide 4) (item_of first.now ∷ item_of second.now ∷ []))) }
 {
-    unknown_item(first, names)
-        .or(unknown_item(second, names))
-        .or(number_fault(first, names))
-        .or(number_fault(second, names))
-        .or(reach_fault(first, names, address))
-        .or(reach_fault(second, names, address + 4))
+    if let Some(cause) = unknown_item(first, names) {
+        return Some(cause);
+    }
+    if let Some(cause) = unknown_item(second, names) {
+        return Some(cause);
+    }
+    if let Some(cause) = number_fault(first, names) {
+        return Some(cause);
+    }
+    if let Some(cause) = number_fault(second, names) {
+        return Some(cause);
+    }
+    if let Some(cause) = reach_fault(first, names, address) {
+        return Some(cause);
+    }
+    reach_fault(second, names, address + 4)
 }
 
+/// What is wrong with the numbers of a line.
 #[tactic(auto, using(crate::proofs::FirstOf::first_append))]
 fn numbers_fault(width: Width, numbers: &[Expr<'_>], names: &Names<'_>) -> Option<AsmCause>
-    ensures { result ≡ first_of (map (λ e. unknown_in (held names.now) (expr e)) numbers.now ++ map (λ e. value_fault (expr_value (held names.now) (expr e)) e.column (fits_in width)) numbers.now) }
+    ensures { result ≡ first_of (map (λ e. unknown_in (held names.now) (expr e)) numbers.now ++ map (unfit (held names.now) width) numbers.now) }
 {
-    unknown_among(numbers, names).or(unfit_among(width, numbers, names))
+    if let Some(cause) = unknown_among(numbers, names) {
+        return Some(cause);
+    }
+    unfit_among(width, numbers, names)
 }
 
 /// The first name among numbers that is defined nowhere.

@@ -9,8 +9,8 @@ ghost use Rattle.asm_link.specs.Bytes.{byte_of};
 ghost use Rattle.asm_link.specs.Filled.{IsKept};
 ghost use Rattle.asm_link.specs.Rounds.{IsLayout, IsWithin, IsNamed, AddsLine, RefusesLine, HasAllRoom, KeepsRoom, kept_of, room_fault, runs_of};
 
+use crate::byte_map::ByteMap;
 use crate::definitions::{define_constant, define_labels};
-use crate::memory::Memory;
 use crate::step::Step;
 use asm_parse::{AsmCause, AsmFault, Instrs, Line, Names, Place, Statement, next_line, read_line};
 use pmsi_model::limits::{MAX_FILE_BYTES, MAX_MEMORY, MAX_TEXT_WORDS};
@@ -22,7 +22,7 @@ pub(crate) struct Layout<'a> {
     pub(crate) number: u32,
     pub(crate) place: Place,
     pub(crate) names: Names<'a>,
-    pub(crate) memory: Memory,
+    pub(crate) memory: ByteMap,
     pub(crate) steps: Vec<Step<'a>>,
 }
 
@@ -38,11 +38,11 @@ impl<'a> Layout<'a> {
             number: 1,
             place: Place {
                 in_data: false,
-                text: 0,
-                memory: 0,
+                text_at: 0,
+                data_at: 0,
             },
             names: Names::new(alloc),
-            memory: Memory::new(alloc),
+            memory: ByteMap::new(alloc),
             steps: Vec::new(alloc),
         }
     }
@@ -96,7 +96,7 @@ pub(crate) fn lay_out<'a>(alloc: Global, source: &'a str) -> Result<Layout<'a>, 
 
 /// Names the bytes of a statement.
 fn name_bytes(
-    memory: &mut Memory,
+    memory: &mut ByteMap,
     place: Place,
     does: &Statement<'_>,
     size: u128,
@@ -104,11 +104,11 @@ fn name_bytes(
     requires size { size ≡ size_of (statement_of does.now) }
     requires within { IsWithin (moved (statement_of does.now) place) }
     ensures runs { OnOk result ((runs : List (ℕ × ℕ)) → IsNamed memory.old runs → IsNamed memory.new (runs_of place (statement_of does.now) ++ runs)) }
-    ensures named { OnOk result ((k : ℕ) → place.in_data ≡ true → k < size → IsSome (byte_of memory.new (place.memory + k))) }
+    ensures named { OnOk result ((k : ℕ) → place.in_data ≡ true → k < size → IsSome (byte_of memory.new (place.data_at + k))) }
     ensures still { OnOk result ((address : ℕ) → IsSome (byte_of memory.old address) → IsSome (byte_of memory.new address)) }
 {
     if place.in_data && size > 0 {
-        memory.name(place.memory, size as u32)?;
+        memory.name(place.data_at, size as u32)?;
     }
     Ok(())
 }
@@ -138,13 +138,14 @@ fn here(place: Place) -> u32
     ensures { result ≡ here place }
 {
     if place.in_data {
-        place.memory
+        place.data_at
     } else {
-        place.text
+        place.text_at
     }
 }
 
-/// How many bytes a statement puts into its space.
+/// How many bytes a statement puts into its space, in 128 bits: nothing here bounds how many numbers a line has, and four
+/// times their count may not fit 64 bits.
 fn size_of(does: &Statement<'_>) -> u128
     ensures { result ≡ size_of (statement_of does.now) }
 {
@@ -170,7 +171,7 @@ fn has_items(does: &Statement<'_>) -> bool
 
 /// What is wrong with a statement's size, or with the bytes that it names.
 #[tactic(auto, unfolding(asm_parse::specs::Assembly::first_of))]
-fn room_fault(place: Place, memory: &Memory, does: &Statement<'_>, size: u128) -> Option<AsmCause>
+fn room_fault(place: Place, memory: &ByteMap, does: &Statement<'_>, size: u128) -> Option<AsmCause>
     requires size { size ≡ size_of (statement_of does.now) }
     requires within { IsWithin place }
     ensures fault { (b : Before) → b.place ≡ place → IsNamed memory.now b.runs → result ≡ room_fault b (statement_of does.now) }
@@ -191,7 +192,7 @@ fn text_fault(place: Place, does: &Statement<'_>, size: u128) -> Option<AsmCause
     requires within { IsWithin place }
     ensures { result ≡ text_fault place (statement_of does.now) }
 {
-    if !place.in_data && size > u128::from(4 * MAX_TEXT_WORDS - place.text) {
+    if !place.in_data && size > u128::from(4 * MAX_TEXT_WORDS - place.text_at) {
         Some(AsmCause::TextLong)
     } else {
         None
@@ -207,7 +208,7 @@ fn range_fault(place: Place, does: &Statement<'_>, size: u128) -> Option<AsmCaus
     let address = match does {
         Statement::MoveTo(address) if *address > MAX_MEMORY => *address,
         Statement::MoveTo(_) => return None,
-        _ if place.in_data && size > u128::from(MAX_MEMORY - place.memory) => MAX_MEMORY,
+        _ if place.in_data && size > u128::from(MAX_MEMORY - place.data_at) => MAX_MEMORY,
         _ => return None,
     };
     Some(AsmCause::Range(address))
@@ -216,7 +217,7 @@ fn range_fault(place: Place, does: &Statement<'_>, size: u128) -> Option<AsmCaus
 /// A byte is named a second time.
 fn overlap_fault(
     place: Place,
-    memory: &Memory,
+    memory: &ByteMap,
     does: &Statement<'_>,
     size: u128,
 ) -> Option<AsmCause>
@@ -228,7 +229,7 @@ fn overlap_fault(
     if !place.in_data || size == 0 {
         return None;
     }
-    let address = memory.first_named(place.memory, size as u32)?;
+    let address = memory.first_named(place.data_at, size as u32)?;
     Some(AsmCause::Overlap(address))
 }
 
@@ -241,9 +242,9 @@ fn moved(place: Place, does: &Statement<'_>, size: u128) -> Place
     let mut place = place;
     match does {
         Statement::Switch { to_data } => place.in_data = *to_data,
-        Statement::MoveTo(address) => place.memory = *address,
-        _ if place.in_data => place.memory += size as u32,
-        _ => place.text += size as u32,
+        Statement::MoveTo(address) => place.data_at = *address,
+        _ if place.in_data => place.data_at += size as u32,
+        _ => place.text_at += size as u32,
     }
     place
 }

@@ -2,13 +2,13 @@
 #![tactic(auto)]
 
 mod assembler;
+mod byte_map;
 mod definitions;
 mod emit;
 mod fill;
 mod later;
 pub mod laws;
 mod layout;
-mod memory;
 mod resolve;
 mod step;
 mod values;

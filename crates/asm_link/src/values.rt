@@ -1,10 +1,10 @@
 //! Values of expressions, once all names are known.
 
 ghost use Rattle.std.specs.Prelude.{◌≡◌, ◌^◌, pos, neg_ℤ, ◌≤ℤ◌, ◌<ℤ◌, IfSome};
-ghost use Rattle.asm_parse.specs.Operands.{expr_value, value_of_name};
-ghost use Rattle.asm_parse.specs.Meanings.{expr};
+ghost use Rattle.asm_operands.specs.Operands.{expr_value, value_of_name};
+ghost use Rattle.asm_operands.specs.Meanings.{expr};
 ghost use Rattle.asm_parse.specs.Assembly.{unknown_in, value_or_zero};
-ghost use Rattle.asm_parse.specs.Widths.{IsWide};
+ghost use Rattle.asm_operands.specs.Widths.{IsWide};
 ghost use Rattle.asm_link.specs.Values.{held};
 
 use asm_parse::{AsmCause, Expr, Named, Names};

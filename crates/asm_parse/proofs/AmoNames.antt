@@ -7,7 +7,7 @@ use Rattle.std.proofs.lemmas.Bool.Decides.{same_from_decides}
 use Rattle.std.proofs.lemmas.List.{append-nil, reverse-append, append_cancel_right}
 use Rattle.std.proofs.lemmas.Slice.Eq.{bytes_eq-Decides}
 use Rattle.pmsi_model.specs.declared.instr.AmoOp.{AmoOp}
-use Rattle.asm_parse.specs.Numbers.{value_in}
+use Rattle.asm_operands.specs.Numbers.{value_in}
 use Rattle.asm_parse.specs.Mnemonics.{Form, amo_ops, amo_forms, amo_rows, orderings}
 use Rattle.asm_parse.specs.Forms.{IsCut}
 use Rattle.asm_parse.proofs.MnemonicTables.{not_named}

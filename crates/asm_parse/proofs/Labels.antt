@@ -1,10 +1,10 @@
 -- Where a line's labels end.
 use Rattle.std.proofs.Common.{◌≡◌, List, [], ◌∷◌, ◌++◌, false, length, get_or, ◌<◌, ◌≤◌, arith}
 use Rattle.std.proofs.lemmas.List.{append-nil}
-use Rattle.asm_parse.specs.declared.lexeme.Lexeme as code
-use Rattle.asm_parse.specs.Operands.{Lexeme}
+use Rattle.asm_operands.specs.declared.lexeme.Lexeme as code
+use Rattle.asm_operands.specs.Operands.{Lexeme}
 use Rattle.asm_parse.specs.Assembly.{behind_labels, is_label, labels_of}
-use Rattle.asm_parse.specs.Meanings.{lexeme, lexemes}
+use Rattle.asm_operands.specs.Meanings.{lexeme, lexemes}
 
 -- fewer than two tokens have no label
 pub few_tokens : (xs : List code.Lexeme) (labels : List Lexeme) → length xs < 2 → (labels ++ labels_of (lexemes xs) ≡ labels) × (behind_labels (lexemes xs) ≡ lexemes xs)

@@ -1,8 +1,8 @@
 -- Of the causes that show when a line is read by itself at most one is there.
 use Rattle.std.proofs.Common.{◌≡◌, ℕ, List, [], ◌∷◌, ◌+◌, length, Option, Some, None, option_map, refl, arith}
 use Rattle.std.specs.List.{position}
-use Rattle.asm_parse.specs.declared.fault.TokenFault.TheVariants as token
-use Rattle.asm_parse.specs.Tokens.{code_of, is_strange}
+use Rattle.asm_operands.specs.declared.fault.TokenFault.TheVariants as token
+use Rattle.asm_operands.specs.Tokens.{code_of, is_strange}
 use Rattle.asm_parse.specs.Readings.{done_by}
 use Rattle.asm_parse.specs.declared.fault.AsmCause.TheVariants as cause
 use Rattle.asm_parse.specs.Assembly.{Statement, Asked, NothingAsked, NoWord, OtherSpace, Asks, Misfit, Reads, first_of, word_fault, operand_fault, number_fault, reading_fault, statement_of}

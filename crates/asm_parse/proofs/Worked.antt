@@ -6,16 +6,16 @@ use Rattle.pmsi_model.specs.declared.instr.Instr.{Instr}
 use Rattle.pmsi_model.specs.Instruction.{IsEncodingOf, instr_of}
 use Rattle.pmsi_model.specs.declared.instr.Instr.TheVariants.{OpImm, Ecall}
 use Rattle.pmsi_model.specs.declared.instr.ImmOp.TheVariants.{Addi}
-use Rattle.asm_parse.specs.Tokens.{is_name_byte, is_blank, kind_of, is_strange, code_of, is_after_name, is_within_run, end_at, token_at, tokens_of}
+use Rattle.asm_operands.specs.Tokens.{is_name_byte, is_blank, kind_of, is_strange, code_of, is_after_name, is_within_run, end_at, token_at, tokens_of}
 use Rattle.asm_parse.specs.Lines.{lines_of}
-use Rattle.asm_parse.specs.Numbers.{digits_behind, number_spelt, register_named, weights_behind, fence_set}
-use Rattle.asm_parse.specs.Operands.{take_kind, take_literal, take_expr, take_imm, take_register, take_in_parentheses, take_memory, take_base, take_fences, take_constant, take_more, take_exprs}
-use Rattle.asm_parse.specs.Mnemonics.{take_r, take_rr, take_rrr, take_ri, take_rri, take_rm, take_rrb, take_e, take_re, take_rre, take_rc, take_ff, take_forms, mnemonics, forms_named}
+use Rattle.asm_operands.specs.Numbers.{digits_behind, number_spelt, registers, register_named, weights_behind, fence_set}
+use Rattle.asm_operands.specs.Operands.{take_kind, take_literal, take_expr, take_imm, take_register, take_in_parentheses, take_memory, take_base, take_fences, take_constant, take_more, take_exprs, take_r, take_rr, take_rrr, take_ri, take_rri, take_rm, take_rrb, take_e, take_re, take_rre, take_rc, take_ff}
+use Rattle.asm_parse.specs.Mnemonics.{take_forms, mnemonics, forms_named}
 use Rattle.asm_parse.specs.Assembly.{first_of, directives, labels_of, behind_labels, first_twice, reading_fault, placing_fault, asked, directive_named, step_of, after_step, steps_from, steps_of, names_of, placed_from, placed, later_fault, asm_fault, text_of, data_of, byte_at}
 use Rattle.asm_parse.specs.Examples.{ReadsInstructions, ReadsData, FindsFaults, Assembles}
 
 pub reads_instructions : ReadsInstructions
-unfolding is_name_byte is_blank kind_of is_strange code_of is_after_name is_within_run end_at token_at tokens_of lines_of digits_behind number_spelt register_named weights_behind fence_set take_kind take_literal take_expr take_imm take_register take_in_parentheses take_memory take_base take_fences take_constant take_more take_exprs take_r take_rr take_rrr take_ri take_rri take_rm take_rrb take_e take_re take_rre take_rc take_ff take_forms mnemonics forms_named first_of directives labels_of behind_labels first_twice reading_fault placing_fault asked directive_named step_of after_step steps_from steps_of names_of placed_from placed later_fault asm_fault text_of data_of
+unfolding is_name_byte is_blank kind_of is_strange code_of is_after_name is_within_run end_at token_at tokens_of lines_of digits_behind number_spelt registers register_named weights_behind fence_set take_kind take_literal take_expr take_imm take_register take_in_parentheses take_memory take_base take_fences take_constant take_more take_exprs take_r take_rr take_rrr take_ri take_rri take_rm take_rrb take_e take_re take_rre take_rc take_ff take_forms mnemonics forms_named first_of directives labels_of behind_labels first_twice reading_fault placing_fault asked directive_named step_of after_step steps_from steps_of names_of placed_from placed later_fault asm_fault text_of data_of
 reads_instructions = record {
   adds = refl;
   li_12_bits = refl;
@@ -40,7 +40,7 @@ reads_instructions = record {
 }
 
 pub reads_data : ReadsData
-unfolding is_name_byte is_blank kind_of is_strange code_of is_after_name is_within_run end_at token_at tokens_of lines_of digits_behind number_spelt register_named weights_behind fence_set take_kind take_literal take_expr take_imm take_register take_in_parentheses take_memory take_base take_fences take_constant take_more take_exprs take_r take_rr take_rrr take_ri take_rri take_rm take_rrb take_e take_re take_rre take_rc take_ff take_forms mnemonics forms_named first_of directives labels_of behind_labels first_twice reading_fault placing_fault asked directive_named step_of after_step steps_from steps_of names_of placed_from placed later_fault asm_fault text_of data_of
+unfolding is_name_byte is_blank kind_of is_strange code_of is_after_name is_within_run end_at token_at tokens_of lines_of digits_behind number_spelt registers register_named weights_behind fence_set take_kind take_literal take_expr take_imm take_register take_in_parentheses take_memory take_base take_fences take_constant take_more take_exprs take_r take_rr take_rrr take_ri take_rri take_rm take_rrb take_e take_re take_rre take_rc take_ff take_forms mnemonics forms_named first_of directives labels_of behind_labels first_twice reading_fault placing_fault asked directive_named step_of after_step steps_from steps_of names_of placed_from placed later_fault asm_fault text_of data_of
 reads_data = record {
   words = refl;
   names = refl;
@@ -49,7 +49,7 @@ reads_data = record {
 }
 
 pub finds_faults : FindsFaults
-unfolding is_name_byte is_blank kind_of is_strange code_of is_after_name is_within_run end_at token_at tokens_of lines_of digits_behind number_spelt register_named weights_behind fence_set take_kind take_literal take_expr take_imm take_register take_in_parentheses take_memory take_base take_fences take_constant take_more take_exprs take_r take_rr take_rrr take_ri take_rri take_rm take_rrb take_e take_re take_rre take_rc take_ff take_forms mnemonics forms_named first_of directives labels_of behind_labels first_twice reading_fault placing_fault asked directive_named step_of after_step steps_from steps_of names_of placed_from placed later_fault asm_fault text_of data_of
+unfolding is_name_byte is_blank kind_of is_strange code_of is_after_name is_within_run end_at token_at tokens_of lines_of digits_behind number_spelt registers register_named weights_behind fence_set take_kind take_literal take_expr take_imm take_register take_in_parentheses take_memory take_base take_fences take_constant take_more take_exprs take_r take_rr take_rrr take_ri take_rri take_rm take_rrb take_e take_re take_rre take_rc take_ff take_forms mnemonics forms_named first_of directives labels_of behind_labels first_twice reading_fault placing_fault asked directive_named step_of after_step steps_from steps_of names_of placed_from placed later_fault asm_fault text_of data_of
 finds_faults = record {
   character = refl;
   word = refl;
@@ -103,7 +103,7 @@ unfolding instr_of
 encodes_ecall = encodes 0x00000073 Ecall (omega arith) refl
 
 pub assembles : Assembles
-unfolding is_name_byte is_blank kind_of is_strange code_of is_after_name is_within_run end_at token_at tokens_of lines_of digits_behind number_spelt register_named weights_behind fence_set take_kind take_literal take_expr take_imm take_register take_in_parentheses take_memory take_base take_fences take_constant take_more take_exprs take_r take_rr take_rrr take_ri take_rri take_rm take_rrb take_e take_re take_rre take_rc take_ff take_forms mnemonics forms_named first_of directives labels_of behind_labels first_twice reading_fault placing_fault asked directive_named step_of after_step steps_from steps_of names_of placed_from placed later_fault asm_fault text_of data_of byte_at
+unfolding is_name_byte is_blank kind_of is_strange code_of is_after_name is_within_run end_at token_at tokens_of lines_of digits_behind number_spelt registers register_named weights_behind fence_set take_kind take_literal take_expr take_imm take_register take_in_parentheses take_memory take_base take_fences take_constant take_more take_exprs take_r take_rr take_rrr take_ri take_rri take_rm take_rrb take_e take_re take_rre take_rc take_ff take_forms mnemonics forms_named first_of directives labels_of behind_labels first_twice reading_fault placing_fault asked directive_named step_of after_step steps_from steps_of names_of placed_from placed later_fault asm_fault text_of data_of byte_at
 assembles = record {
   adds = record {
     faultless = refl;

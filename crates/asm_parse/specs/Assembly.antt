@@ -8,24 +8,24 @@ use Rattle.pmsi_model.specs.declared.limits.TheConstants.{MAX_TEXT_WORDS, MAX_ME
 use Rattle.pmsi_model.specs.Image.{ImageValue, IsImage}
 use Rattle.pmsi_model.specs.Instruction.{IsEncodingOf}
 use Rattle.pmsi_model.specs.Words.{word_of, bytes_of}
-use Rattle.asm_parse.specs.declared.token.TokenKind.TheVariants.{Word, Colon}
+use Rattle.asm_operands.specs.declared.token.TokenKind.TheVariants.{Word, Colon}
 use Rattle.asm_parse.specs.declared.fault.AsmCause.{AsmCause}
 use Rattle.asm_parse.specs.declared.fault.AsmCause.TheVariants as cause
 use Rattle.asm_parse.specs.declared.fault.AsmFault.{AsmFault}
 use Rattle.asm_parse.specs.declared.fault.AsmFault.TheVariants.{At}
-use Rattle.asm_parse.specs.declared.expr.Literal.{Literal}
+use Rattle.asm_operands.specs.declared.expr.Literal.{Literal}
 use Rattle.asm_parse.specs.declared.place.Place.{Place}
-use Rattle.asm_parse.specs.Tokens.{code_of, is_strange}
+use Rattle.asm_operands.specs.Tokens.{code_of, is_strange}
 use Rattle.asm_parse.specs.Lines.{lines_of}
-use Rattle.asm_parse.specs.Numbers.{is_between, is_number, value_in}
-use Rattle.asm_parse.specs.Operands.{Lexeme, lexemes_of, has_kind, Took, Taken, Stuck, then_take, take_kind, take_next, take_literal, take_exprs, ends, Expr, expr_value}
+use Rattle.asm_operands.specs.Numbers.{is_between, is_number, value_in}
+use Rattle.asm_operands.specs.Operands.{Lexeme, lexemes_of, has_kind, Took, Taken, Stuck, then_take, take_kind, take_next, take_literal, take_exprs, ends, Expr, expr_value}
 use Rattle.asm_parse.specs.Mnemonics.{Code, Instruction, Raw, Item, Known, Numbered, Distant, Form, take_forms, forms_named}
 
 -- ---- where a line stands
 
 -- the next address of the space that lines go to
 abbrev pub here : Place → ℕ
-here place = if place.in_data then place.memory else place.text
+here place = if place.in_data then place.data_at else place.text_at
 
 -- what the lines before have left: the place, the names of labels and `.equ`, those of `.equ` alone, and the runs of bytes
 -- that data has, as addresses with how many bytes begin there
@@ -36,7 +36,7 @@ pub record Before : Type 0 where
   pub runs : List (ℕ × ℕ)
 
 abbrev pub at_start : Before
-at_start = record { place = record { in_data = false; text = 0; memory = 0 }; names = []; equs = []; runs = [] }
+at_start = record { place = record { in_data = false; text_at = 0; data_at = 0 }; names = []; equs = []; runs = [] }
 
 -- ---- what a line does
 
@@ -151,7 +151,7 @@ directives =
     (codes ".text", everywhere (λ xs. read_plain (ends (Switch false) xs)))
     ∷ (codes ".data", everywhere (λ xs. read_plain (ends (Switch true) xs)))
     ∷ (codes ".org", for_data (λ place xs. read_number is_size (λ n. MoveTo (word_of n)) xs))
-    ∷ (codes ".balign", for_data (λ place xs. read_number is_alignment (λ n. MoveTo (aligned place.memory (word_of n))) xs))
+    ∷ (codes ".balign", for_data (λ place xs. read_number is_alignment (λ n. MoveTo (aligned place.data_at (word_of n))) xs))
     ∷ (codes ".word", everywhere (λ xs. read_numbers 4 is_number xs))
     ∷ (codes ".half", for_data (λ place xs. read_numbers 2 is_half xs))
     ∷ (codes ".byte", for_data (λ place xs. read_numbers 1 is_byte xs))
@@ -242,18 +242,18 @@ size_of (Zeros count) = count
 size_of does = 0
 
 abbrev pub text_fault : Place → Statement → Option AsmCause
-text_fault place does = if not place.in_data && nat_lt (4 * MAX_TEXT_WORDS) (place.text + size_of does) then Some cause.TextLong else None
+text_fault place does = if not place.in_data && nat_lt (4 * MAX_TEXT_WORDS) (place.text_at + size_of does) then Some cause.TextLong else None
 
 abbrev pub range_fault : Place → Statement → Option AsmCause
 range_fault place (MoveTo address) = if nat_lt MAX_MEMORY address then Some (cause.Range address) else None
-range_fault place does = if place.in_data && nat_lt MAX_MEMORY (place.memory + size_of does) then Some (cause.Range MAX_MEMORY) else None
+range_fault place does = if place.in_data && nat_lt MAX_MEMORY (place.data_at + size_of does) then Some (cause.Range MAX_MEMORY) else None
 
 abbrev pub has_byte : List (ℕ × ℕ) → ℕ → Bool
 has_byte runs address = list_any (λ run. nat_le run.0 address && nat_lt address (run.0 + run.1)) runs
 
 abbrev pub overlap_fault : Before → Statement → Option AsmCause
 overlap_fault b does =
-    if b.place.in_data then option_map (λ address. cause.Overlap address) (find (has_byte b.runs) (range_with_len b.place.memory (size_of does))) else None
+    if b.place.in_data then option_map (λ address. cause.Overlap address) (find (has_byte b.runs) (range_with_len b.place.data_at (size_of does))) else None
 
 -- ---- a step: what a line is in its place
 
@@ -294,8 +294,8 @@ step_of number b line =
 
 abbrev pub moved : Statement → Place → Place
 moved (Switch in_data) place = record place { in_data = in_data }
-moved (MoveTo address) place = record place { memory = address }
-moved does place = if place.in_data then record place { memory = place.memory + size_of does } else record place { text = place.text + size_of does }
+moved (MoveTo address) place = record place { data_at = address }
+moved does place = if place.in_data then record place { data_at = place.data_at + size_of does } else record place { text_at = place.text_at + size_of does }
 
 abbrev pub equs_of : Statement → List (List ℕ × ℤ)
 equs_of (Define name n) = (name.text, n) ∷ []
@@ -306,10 +306,15 @@ abbrev pub names_by : Step → List (List ℕ × ℤ)
 names_by step = map (λ x. (x.text, pos (here step.place))) step.labels ++ equs_of step.does
 
 abbrev pub run_by : Step → List (ℕ × ℕ)
-run_by step = if step.place.in_data && nat_lt 0 (size_of step.does) then (step.place.memory, size_of step.does) ∷ [] else []
+run_by step = if step.place.in_data && nat_lt 0 (size_of step.does) then (step.place.data_at, size_of step.does) ∷ [] else []
 
 unfoldable pub after_step : Before → Step → Before
-after_step b step = record { place = moved step.does step.place; names = b.names ++ names_by step; equs = b.equs ++ equs_of step.does; runs = run_by step ++ b.runs }
+after_step b step = record {
+  place = moved step.does step.place;
+  names = b.names ++ names_by step;
+  equs = b.equs ++ equs_of step.does;
+  runs = run_by step ++ b.runs;
+}
 
 unfoldable pub steps_from : ℕ → Before → List (List ℕ) → List Step
 steps_from number b [] = []
@@ -423,7 +428,7 @@ bytes_by names step = zeros_of step.does ++ flat_map code_bytes (codes_of names 
 -- the bytes that the lines of data name, line by line with their addresses
 unfoldable pub data_of : List ℕ → List (ℕ × List ℕ)
 data_of source =
-    let steps = steps_of source in map (λ step. (step.place.memory, bytes_by (names_of steps) step)) (filter (λ step. step.place.in_data) steps)
+    let steps = steps_of source in map (λ step. (step.place.data_at, bytes_by (names_of steps) step)) (filter (λ step. step.place.in_data) steps)
 
 abbrev pub byte_in : ℕ → ℕ × List ℕ → Option ℕ
 byte_in address run = if nat_le run.0 address then slice_get run.1 (address - run.0) else None

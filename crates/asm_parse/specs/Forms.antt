@@ -4,10 +4,12 @@ use Rattle.pmsi_model.specs.declared.instr.BranchOp.{BranchOp}
 use Rattle.pmsi_model.specs.declared.instr.Instr.TheVariants.{Lui, Auipc, Jalr, Load, Store, OpImm, Op, Amo, Fence, Ecall, Ebreak}
 use Rattle.pmsi_model.specs.declared.instr.ImmOp.TheVariants.{Addi, Xori, Sltiu}
 use Rattle.pmsi_model.specs.Words.{word_of}
-use Rattle.asm_parse.specs.declared.mnemonic.Memory.{Memory}
-use Rattle.asm_parse.specs.declared.mnemonic.Memory.TheVariants as memory
+use Rattle.asm_parse.specs.declared.mnemonic.Access.{Access}
+use Rattle.asm_parse.specs.declared.mnemonic.Access.TheVariants as access
 use Rattle.asm_parse.specs.declared.mnemonic.Mnemonic.{Mnemonic}
 use Rattle.asm_parse.specs.declared.mnemonic.Mnemonic.TheVariants as mnemonic
+use Rattle.asm_parse.specs.declared.mnemonic.Order.{Order}
+use Rattle.asm_parse.specs.declared.mnemonic.Order.TheVariants.{Given, Swapped}
 use Rattle.asm_parse.specs.declared.mnemonic.Operation.{Operation}
 use Rattle.asm_parse.specs.declared.mnemonic.Operation.TheVariants as operation
 use Rattle.asm_parse.specs.Items.{op_takes}
@@ -21,6 +23,11 @@ jal_form = form_re (λ rd target. jump_to rd target ∷ [])
 
 abbrev pub jump_form : ℕ → Form
 jump_form rd = form_e (λ target. jump_to rd target ∷ [])
+
+-- a jump without a register of its own links in x1, or not at all
+abbrev pub link_of : Bool → ℕ
+link_of true = 1
+link_of false = 0
 
 abbrev pub jalr_at_form : Form
 jalr_at_form = form_rm (λ rd imm rs1. with_imm is_imm_12 (Jalr rd rs1) imm ∷ [])
@@ -36,6 +43,10 @@ jump_register_form rd = form_r (λ rs. ready (Jalr rd rs (pos 0)))
 abbrev pub first_if : Bool → ℕ → ℕ → ℕ
 first_if this a b = if this then a else b
 
+abbrev pub is_swapped : Order → Bool
+is_swapped Given = false
+is_swapped Swapped = true
+
 abbrev pub branch_form : BranchOp → Bool → Form
 branch_form op swapped = form_rre (λ a b target. branch_to op (first_if swapped b a) (first_if swapped a b) target ∷ [])
 
@@ -44,10 +55,10 @@ branch_zero_form op swapped = form_re (λ rs target. branch_to op (first_if swap
 
 -- ---- the rest
 
-abbrev pub memory_form : Memory → Form
-memory_form (memory.Load op) = form_rm (λ rd imm rs1. with_imm is_imm_12 (Load op rd rs1) imm ∷ [])
-memory_form (memory.Store op) = form_rm (λ rs2 imm rs1. with_imm is_imm_12 (Store op rs1 rs2) imm ∷ [])
-memory_form (memory.Amo op aq rl) = form_rrb (λ rd rs2 rs1. ready (Amo op rd rs1 rs2 aq rl))
+abbrev pub access_form : Access → Form
+access_form (access.Load op) = form_rm (λ rd imm rs1. with_imm is_imm_12 (Load op rd rs1) imm ∷ [])
+access_form (access.Store op) = form_rm (λ rs2 imm rs1. with_imm is_imm_12 (Store op rs1 rs2) imm ∷ [])
+access_form (access.Amo op aq rl) = form_rrb (λ rd rs2 rs1. ready (Amo op rd rs1 rs2 aq rl))
 
 abbrev pub operation_form : Operation → Form
 operation_form operation.Lui = form_ri (λ rd imm. with_imm is_imm_20 (λ n. Lui rd (word_of n)) imm ∷ [])
@@ -66,11 +77,11 @@ fence_form = form_ff (λ before after. ready (Fence (fence_word before after)))
 abbrev pub forms_of : Mnemonic → List Form
 forms_of mnemonic.Jal = jal_form ∷ jump_form 1 ∷ []
 forms_of mnemonic.Jalr = jalr_at_form ∷ jalr_by_form ∷ jump_register_form 1 ∷ []
-forms_of (mnemonic.Jump rd) = jump_form rd ∷ []
+forms_of (mnemonic.Jump links) = jump_form (link_of links) ∷ []
 forms_of mnemonic.JumpRegister = jump_register_form 0 ∷ []
-forms_of (mnemonic.Branch op swapped) = branch_form op swapped ∷ []
-forms_of (mnemonic.BranchZero op swapped) = branch_zero_form op swapped ∷ []
-forms_of (mnemonic.Memory m) = memory_form m ∷ []
+forms_of (mnemonic.Branch op order) = branch_form op (is_swapped order) ∷ []
+forms_of (mnemonic.BranchZero op order) = branch_zero_form op (is_swapped order) ∷ []
+forms_of (mnemonic.Access a) = access_form a ∷ []
 forms_of (mnemonic.Operation o) = operation_form o ∷ []
 forms_of mnemonic.Fence = no_operands (ready (Fence (fence_word 15 15))) ∷ fence_form ∷ []
 forms_of mnemonic.Ecall = no_operands (ready Ecall) ∷ []
@@ -87,4 +98,6 @@ abbrev pub IsCut : List ℕ → List ℕ → Bool → Bool → Type 0
 IsCut name stem true true = name ≡ stem ++ codes ".aqrl"
 IsCut name stem true false = name ≡ stem ++ codes ".aq"
 IsCut name stem false true = name ≡ stem ++ codes ".rl"
-IsCut name stem false false = (name ≡ stem) × ((front : List ℕ) → name ≢ front ++ codes ".aqrl") × ((front : List ℕ) → name ≢ front ++ codes ".aq") × ((front : List ℕ) → name ≢ front ++ codes ".rl")
+IsCut name stem false false =
+    (name ≡ stem) × ((front : List ℕ) → name ≢ front ++ codes ".aqrl") × ((front : List ℕ) → name ≢ front ++ codes ".aq")
+    × ((front : List ℕ) → name ≢ front ++ codes ".rl")

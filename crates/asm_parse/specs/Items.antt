@@ -13,10 +13,10 @@ use Rattle.asm_parse.specs.declared.item.Width.{Width}
 use Rattle.asm_parse.specs.declared.item.Width.TheVariants.{Byte, Half, Word}
 use Rattle.asm_parse.specs.declared.statement.Statement as code_statement
 use Rattle.asm_parse.specs.declared.statement.Statement.TheVariants as statement
-use Rattle.asm_parse.specs.declared.expr.Expr as code_expr
-use Rattle.asm_parse.specs.Numbers.{is_number}
+use Rattle.asm_operands.specs.declared.expr.Expr as code_expr
+use Rattle.asm_operands.specs.Numbers.{is_number}
 use Rattle.asm_parse.specs.Mnemonics.{Item, Known, Numbered, Distant, Instruction, part_of, with_imm, is_imm_12, is_imm_20, is_shift, reaches}
-use Rattle.asm_parse.specs.Meanings.{lexeme, expr, imm}
+use Rattle.asm_operands.specs.Meanings.{lexeme, expr, imm}
 use Rattle.asm_parse.specs.Assembly.{Statement, Nothing, Switch, Emit, Zeros, MoveTo, Define, number_item, is_byte, is_half}
 
 -- an instruction with another immediate or offset

@@ -1,14 +1,8 @@
-pub mod Tokens
 pub mod Lines
 pub mod Laws
-pub mod Numbers
-pub mod Operands
 pub mod Mnemonics
 pub mod Assembly
 pub mod Examples
-pub mod Widths
-pub mod Meanings
-pub mod NameTable
 pub mod Items
 pub mod ReadLines
 pub mod Forms

@@ -1,7 +1,7 @@
 -- Instructions and pseudo-instructions: the forms of each, and the instructions that it stands for. Names of instructions
 -- and operands are those of the RISC-V Unprivileged ISA, version 20191213. Pseudo-instructions are from its chapter 25; here
 -- `call` is one jump, and `la` gives an absolute address.
-use Rattle.std.specs.Prelude.{ℕ, ◌+◌, ◌-◌, ◌*◌, ◌/◌, ◌%◌, ◌^◌, ℤ, pos, negsuc, neg_ℤ, Bool, true, false, ◌&&◌, ◌==◌, if◌then◌else◌, List, [], ◌∷◌, ◌++◌, map, codes, Option, Some, None}
+use Rattle.std.specs.Prelude.{ℕ, ◌+◌, ◌-◌, ◌*◌, ◌/◌, ◌%◌, ◌^◌, ℤ, pos, negsuc, neg_ℤ, Bool, true, false, ◌&&◌, ◌==◌, if◌then◌else◌, nat_lt, List, [], ◌∷◌, ◌++◌, map, length, codes, Option, Some, None}
 use Rattle.std.specs.List.{flat_map}
 use Rattle.std.specs.Int.{w32, cast_signed}
 use Rattle.pmsi_model.specs.declared.instr.Instr.{Instr}
@@ -19,10 +19,10 @@ use Rattle.pmsi_model.specs.declared.instr.RegOp.TheVariants.{Add, Sub, Sll, Slt
 use Rattle.pmsi_model.specs.declared.instr.AmoOp.{AmoOp}
 use Rattle.pmsi_model.specs.declared.instr.AmoOp.TheVariants.{Amoadd, Amoswap, Amoxor, Amoor, Amoand, Amomin, Amomax, Amominu, Amomaxu}
 use Rattle.pmsi_model.specs.Words.{word_of, signed, wrapped}
-use Rattle.asm_parse.specs.declared.expr.Part.{Part}
-use Rattle.asm_parse.specs.declared.expr.Part.TheVariants.{Whole, High, Low}
-use Rattle.asm_parse.specs.Numbers.{is_between, is_number, value_in}
-use Rattle.asm_parse.specs.Operands.{Lexeme, Took, Taken, Stuck, then_take, Expr, Imm, take_expr, take_imm, take_register, take_memory, take_base, take_fences, take_constant, ends, take_next, further}
+use Rattle.asm_operands.specs.declared.expr.Part.{Part}
+use Rattle.asm_operands.specs.declared.expr.Part.TheVariants.{Whole, High, Low}
+use Rattle.asm_operands.specs.Numbers.{is_between, is_number, value_in}
+use Rattle.asm_operands.specs.Operands.{Lexeme, Took, Taken, Stuck, Expr, Imm, ends, take_r, take_rr, take_rrr, take_ri, take_rri, take_rm, take_rrb, take_e, take_re, take_rre, take_rc, take_ff}
 
 -- ---- what a line puts into text or data
 
@@ -84,53 +84,9 @@ branch_to op rs1 rs2 target = Distant target (reaches 4096) (λ n. Instruction (
 abbrev pub ready : Instr → List Item
 ready instr = Known (Instruction instr) ∷ []
 
--- ---- operands
-
--- What a form takes, up to the line's end. Forms are named by their operands: registers r, an immediate i, an address m,
--- that of an AMO b, an expression e, a constant c, sets of a fence f.
-
-abbrev pub take_pair : List Lexeme → Took (ℕ × ℕ)
-take_pair xs = then_take (take_register xs) (λ a xs. then_take (take_next take_register xs) (λ b xs. Taken (a, b) xs))
-
-unfoldable pub take_r : List Lexeme → Took ℕ
-take_r xs = then_take (take_register xs) ends
-
-unfoldable pub take_rr : List Lexeme → Took (ℕ × ℕ)
-take_rr xs = then_take (take_pair xs) ends
-
-unfoldable pub take_rrr : List Lexeme → Took (ℕ × ℕ × ℕ)
-take_rrr xs = then_take (take_pair xs) (λ t xs. then_take (take_next take_register xs) (λ c xs. ends (t.0, t.1, c) xs))
-
-unfoldable pub take_ri : List Lexeme → Took (ℕ × Imm)
-take_ri xs = then_take (take_register xs) (λ a xs. then_take (take_next take_imm xs) (λ imm xs. ends (a, imm) xs))
-
-unfoldable pub take_rri : List Lexeme → Took (ℕ × ℕ × Imm)
-take_rri xs = then_take (take_pair xs) (λ t xs. then_take (take_next take_imm xs) (λ imm xs. ends (t.0, t.1, imm) xs))
-
-unfoldable pub take_rm : List Lexeme → Took (ℕ × Imm × ℕ)
-take_rm xs = then_take (take_register xs) (λ a xs. then_take (take_next take_memory xs) (λ at xs. ends (a, at.0, at.1) xs))
-
-unfoldable pub take_rrb : List Lexeme → Took (ℕ × ℕ × ℕ)
-take_rrb xs = then_take (take_pair xs) (λ t xs. then_take (take_next take_base xs) (λ c xs. ends (t.0, t.1, c) xs))
-
-unfoldable pub take_e : List Lexeme → Took Expr
-take_e xs = then_take (take_expr xs) ends
-
-unfoldable pub take_re : List Lexeme → Took (ℕ × Expr)
-take_re xs = then_take (take_register xs) (λ a xs. then_take (take_next take_expr xs) (λ e xs. ends (a, e) xs))
-
-unfoldable pub take_rre : List Lexeme → Took (ℕ × ℕ × Expr)
-take_rre xs = then_take (take_pair xs) (λ t xs. then_take (take_next take_expr xs) (λ e xs. ends (t.0, t.1, e) xs))
-
-unfoldable pub take_rc : List (List ℕ × ℤ) → List Lexeme → Took (ℕ × Expr × Option ℤ)
-take_rc equs xs = then_take (take_register xs) (λ a xs. then_take (take_next (take_constant equs) xs) (λ c xs. ends (a, c.0, c.1) xs))
-
-unfoldable pub take_ff : List Lexeme → Took (ℕ × ℕ)
-take_ff xs = then_take (take_fences xs) (λ a xs. then_take (take_next take_fences xs) (λ b xs. ends (a, b) xs))
-
 -- ---- forms
 
--- what a form takes, with the names of `.equ` that stand before, and what it stands for
+-- what a form takes, up to the line's end, with the names of `.equ` that stand before, and what it stands for
 abbrev pub Form : Type 0
 Form = List (List ℕ × ℤ) → List Lexeme → Took (List Item)
 
@@ -176,6 +132,12 @@ form_rc f equs xs = gives (λ t. f t.0 t.1 t.2) (take_rc equs xs)
 
 abbrev pub form_ff : (ℕ → ℕ → List Item) → Form
 form_ff f equs xs = gives (λ t. f t.0 t.1) (take_ff xs)
+
+-- of two ways, the one that fits, or the one that goes further
+abbrev pub further : {A : Type 0} → Took A → Took A → Took A
+further (Taken a xs) other = Taken a xs
+further (Stuck xs) (Taken a ys) = Taken a ys
+further (Stuck xs) (Stuck ys) = if nat_lt (length xs) (length ys) then Stuck xs else Stuck ys
 
 -- the form that fits, or that goes furthest
 unfoldable pub take_forms : List Form → Form
@@ -245,7 +207,12 @@ upper_and_jump_rows =
     (codes "lui", form_ri (λ rd imm. with_imm is_imm_20 (λ n. Lui rd (word_of n)) imm ∷ []) ∷ [])
     ∷ (codes "auipc", form_ri (λ rd imm. with_imm is_imm_20 (λ n. Auipc rd (word_of n)) imm ∷ []) ∷ [])
     ∷ (codes "jal", form_re (λ rd target. jump_to rd target ∷ []) ∷ form_e (λ target. jump_to 1 target ∷ []) ∷ [])
-    ∷ (codes "jalr", form_rm (λ rd imm rs1. with_imm is_imm_12 (Jalr rd rs1) imm ∷ []) ∷ form_rri (λ rd rs1 imm. with_imm is_imm_12 (Jalr rd rs1) imm ∷ []) ∷ form_r (λ rs. ready (Jalr 1 rs (pos 0))) ∷ [])
+    ∷ (
+      codes "jalr",
+      form_rm (λ rd imm rs1. with_imm is_imm_12 (Jalr rd rs1) imm ∷ [])
+          ∷ form_rri (λ rd rs1 imm. with_imm is_imm_12 (Jalr rd rs1) imm ∷ [])
+          ∷ form_r (λ rs. ready (Jalr 1 rs (pos 0))) ∷ [],
+    )
     ∷ []
 
 abbrev pub branch_rows : List (List ℕ × List Form)
@@ -318,11 +285,15 @@ pseudo_jump_and_load_rows =
     ∷ (codes "la", form_re load_address ∷ [])
     ∷ []
 
--- instructions, and then pseudo-instructions
+-- instructions but for AMOs
+abbrev pub instruction_rows : List (List ℕ × List Form)
+instruction_rows = upper_and_jump_rows ++ branch_rows ++ load_and_store_rows ++ imm_rows ++ reg_rows ++ fence_and_system_rows
+
+abbrev pub pseudo_rows : List (List ℕ × List Form)
+pseudo_rows = pseudo_operation_rows ++ branch_zero_rows ++ swapped_branch_rows ++ pseudo_jump_and_load_rows
+
 unfoldable pub mnemonics : List (List ℕ × List Form)
-mnemonics =
-    upper_and_jump_rows ++ branch_rows ++ load_and_store_rows ++ imm_rows ++ reg_rows ++ amo_rows
-    ++ fence_and_system_rows ++ pseudo_operation_rows ++ branch_zero_rows ++ swapped_branch_rows ++ pseudo_jump_and_load_rows
+mnemonics = instruction_rows ++ amo_rows ++ pseudo_rows
 
 -- the forms of a mnemonic, if there is one of this name
 unfoldable pub forms_named : List ℕ → Option (List Form)

@@ -3,10 +3,10 @@ use Rattle.std.specs.Prelude.{◌≡◌, ℕ, ℤ, List, Option, None}
 use Rattle.asm_parse.specs.declared.place.Place.{Place}
 use Rattle.asm_parse.specs.declared.fault.AsmCause.{AsmCause}
 use Rattle.asm_parse.specs.declared.statement.Line.{Line}
-use Rattle.asm_parse.specs.Tokens.{code_of}
-use Rattle.asm_parse.specs.Operands.{lexemes_of}
+use Rattle.asm_operands.specs.Tokens.{code_of}
+use Rattle.asm_operands.specs.Operands.{lexemes_of}
 use Rattle.asm_parse.specs.Assembly.{Asked, asked, behind_labels, labels_of, reading_fault, statement_of}
-use Rattle.asm_parse.specs.Meanings.{lexemes}
+use Rattle.asm_operands.specs.Meanings.{lexemes}
 use Rattle.asm_parse.specs.Items as items
 
 abbrev pub asked_by : Place → List (List ℕ × ℤ) → List ℕ → Asked

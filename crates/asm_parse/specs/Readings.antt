@@ -8,9 +8,9 @@ use Rattle.asm_parse.specs.declared.misread.Misread as code_misread
 use Rattle.asm_parse.specs.declared.misread.Misread.TheVariants as misread
 use Rattle.asm_parse.specs.declared.item.Width.{Width}
 use Rattle.asm_parse.specs.declared.item.Width.TheVariants.{Byte, Half, Word}
-use Rattle.asm_parse.specs.declared.token.TokenKind.TheVariants as kind
+use Rattle.asm_operands.specs.declared.token.TokenKind.TheVariants as kind
 use Rattle.asm_parse.specs.declared.statement.Statement as code_statement
-use Rattle.asm_parse.specs.Operands.{Lexeme, Took, take_kind, then_take, ends}
+use Rattle.asm_operands.specs.Operands.{Lexeme, Took, take_kind, then_take, ends}
 use Rattle.pmsi_model.specs.Words.{word_of}
 use Rattle.asm_parse.specs.Assembly.{Asked, NothingAsked, NoWord, OtherSpace, Asks, Misfit, Reads, word_fault, operand_fault, number_fault, Directive, Statement, Nothing, Switch, Zeros, MoveTo, everywhere, for_data, read_plain, read_number, read_numbers, read_definition, take_definition, is_size, is_alignment, aligned}
 use Rattle.asm_parse.specs.Items.{fits_in}
@@ -24,7 +24,7 @@ numbers_meaning Word = everywhere (λ xs. read_numbers 4 (fits_in Word) xs)
 abbrev pub directive_meaning : code_directive.Directive → Directive
 directive_meaning (directive.Switch to_data) = everywhere (λ xs. read_plain (ends (Switch to_data) xs))
 directive_meaning directive.Origin = for_data (λ place xs. read_number is_size (λ n. MoveTo (word_of n)) xs)
-directive_meaning directive.Align = for_data (λ place xs. read_number is_alignment (λ n. MoveTo (aligned place.memory (word_of n))) xs)
+directive_meaning directive.Align = for_data (λ place xs. read_number is_alignment (λ n. MoveTo (aligned place.data_at (word_of n))) xs)
 directive_meaning (directive.Numbers width) = numbers_meaning width
 directive_meaning directive.Zeros = for_data (λ place xs. read_number is_size (λ n. Zeros (word_of n)) xs)
 directive_meaning directive.Define = everywhere (λ xs. read_definition (take_definition xs))

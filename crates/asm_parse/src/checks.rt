@@ -1,17 +1,16 @@
 //! Checks of numbers that are known at once.
 
-ghost use Rattle.std.specs.Prelude.{◌≡◌, ◌<◌, ◌≤◌, ℕ, ℤ, pos, Bool, map, IfOk};
+ghost use Rattle.std.specs.Prelude.{◌≡◌, ◌<◌, ◌≤◌, ℕ, ℤ, pos, Bool, true, map, IfOk, IfSome};
 ghost use Rattle.std.specs.Result.{result_err};
 ghost use Rattle.asm_parse.specs.declared.item.Item.TheVariants as item;
-ghost use Rattle.asm_parse.specs.Numbers.{is_number};
+ghost use Rattle.asm_operands.specs.Numbers.{is_number};
 ghost use Rattle.asm_parse.specs.Assembly.{wrong_item, first_wrong, is_size, is_alignment};
 ghost use Rattle.asm_parse.specs.Items.{item_of, instrs_of, number_of};
 ghost use Rattle.asm_parse.specs.Checks.{wrong_by, wrong_expr, IsChecked};
 
-use crate::expr::{Expr, Imm, Literal};
 use crate::item::{Instrs, Item, Width};
-use crate::number::Number;
-use crate::ranges::{fits_in, is_number, part_of, takes};
+use crate::ranges::{fits_in, part_of, takes};
+use asm_operands::{Expr, Imm, Literal, Number};
 use pmsi_model::Instr;
 
 /// What was checked, or the column of the first number that is wrong.
@@ -106,12 +105,10 @@ pub(crate) fn check_alignment(n: Literal) -> Checked<u32>
     }
 }
 
-/// A number that a source can have.
+/// A number of a source, which may be misspelt or too wide.
 pub(crate) fn check_value(n: Literal) -> Checked<Number>
+    requires { IfSome n.value (λ value. is_number value ≡ true) }
     ensures { IsChecked (λ value. value) n is_number result }
 {
-    match n.value {
-        Some(value) if is_number(value.value()) => Ok(value),
-        _ => Err(n.column),
-    }
+    n.value.ok_or(n.column)
 }

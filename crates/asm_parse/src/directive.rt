@@ -1,24 +1,24 @@
 //! Directives: what each asks for.
 
-ghost use Rattle.std.specs.Prelude.{◌≡◌, ◌<◌, ◌≤◌, Bool, false, option_map, IfOk};
+ghost use Rattle.std.specs.Prelude.{◌≡◌, ◌<◌, ◌≤◌, Bool, false, true, option_map, IfOk, IfSome};
+ghost use Rattle.asm_operands.specs.Numbers.{is_number};
 ghost use Rattle.pmsi_model.specs.declared.limits.TheConstants.{MAX_MEMORY};
-ghost use Rattle.asm_parse.specs.declared.token.TokenKind.TheVariants.{Word};
-ghost use Rattle.asm_parse.specs.Operands.{then_take, take_kind, take_literal, ends};
+ghost use Rattle.asm_operands.specs.declared.token.TokenKind.TheVariants.{Word};
+ghost use Rattle.asm_operands.specs.Operands.{then_take, take_kind, take_literal, ends};
 ghost use Rattle.asm_parse.specs.Items.{IsSound, bytes_in, fits_in};
 ghost use Rattle.asm_parse.specs.Assembly.{Nothing, Switch, MoveTo, Zeros, Asks, aligned, directive_named, is_size, is_alignment, read_definition, read_numbers, take_definition};
-ghost use Rattle.asm_parse.specs.Meanings.{lexeme, lexemes, whole};
+ghost use Rattle.asm_operands.specs.Meanings.{lexeme, lexemes, whole};
 ghost use Rattle.asm_parse.specs.Readings.{directive_meaning, IsNumberRead, IsPlainRead, IsRead};
 
 use crate::checks::{check_alignment, check_numbers, check_size, check_value};
-use crate::expr::Literal;
 use crate::item::Width;
-use crate::lexeme::{Lexeme, Stop, Whole, taken, whole};
-use crate::lists::take_exprs;
 use crate::misread::Misread;
-use crate::operands::{take_kind, take_literal};
 use crate::place::Place;
 use crate::statement::Statement;
-use crate::token::TokenKind;
+use asm_operands::{
+    Lexeme, Literal, Stop, TokenKind, Whole, take_exprs, take_kind, take_literal, taken, value_in,
+    whole,
+};
 use std::alloc::Global;
 
 /// A directive, or several that ask for the same.
@@ -56,25 +56,26 @@ impl Directive {
     }
 }
 
+/// The directives.
+const DIRECTIVES: [(&str, Directive); 11] = [
+    (".text", Directive::Switch { to_data: false }),
+    (".data", Directive::Switch { to_data: true }),
+    (".org", Directive::Origin),
+    (".balign", Directive::Align),
+    (".word", Directive::Numbers(Width::Word)),
+    (".half", Directive::Numbers(Width::Half)),
+    (".byte", Directive::Numbers(Width::Byte)),
+    (".zero", Directive::Zeros),
+    (".equ", Directive::Define),
+    (".globl", Directive::Global),
+    (".global", Directive::Global),
+];
+
 /// The directive of this name, if there is one.
-#[tactic(auto, unfolding(crate::specs::Assembly::directives, crate::specs::Assembly::directive_named))]
 pub(crate) fn directive_named(name: &str) -> Option<Directive>
     ensures { option_map directive_meaning result ≡ directive_named name.now }
 {
-    let directive = match name {
-        ".text" => Directive::Switch { to_data: false },
-        ".data" => Directive::Switch { to_data: true },
-        ".org" => Directive::Origin,
-        ".balign" => Directive::Align,
-        ".word" => Directive::Numbers(Width::Word),
-        ".half" => Directive::Numbers(Width::Half),
-        ".byte" => Directive::Numbers(Width::Byte),
-        ".zero" => Directive::Zeros,
-        ".equ" => Directive::Define,
-        ".globl" | ".global" => Directive::Global,
-        _ => return None,
-    };
-    Some(directive)
+    value_in(&DIRECTIVES, name)
 }
 
 /// What a directive does in this place, by its operands.
@@ -82,51 +83,51 @@ pub(crate) fn read_directive<'a>(
     alloc: Global,
     directive: Directive,
     place: Place,
-    xs: &[Lexeme<'a>],
+    tokens: &[Lexeme<'a>],
 ) -> Result<Statement<'a>, Misread>
-    requires { place.memory ≤ MAX_MEMORY }
-    ensures read { IsRead result (Asks ((directive_meaning directive).reads place (lexemes xs.now))) }
+    requires { place.data_at ≤ MAX_MEMORY }
+    ensures read { IsRead result (Asks ((directive_meaning directive).reads place (lexemes tokens.now))) }
     ensures sound { IfOk result (λ does. (in_data : Bool) → (in_data ≡ false → (directive_meaning directive).data_only ≡ false) → IsSound in_data does) }
 {
     match directive {
         Directive::Switch { to_data } => {
-            read_end(xs)?;
+            read_end(tokens)?;
             Ok(Statement::Switch { to_data })
         }
-        Directive::Origin => Ok(Statement::MoveTo(read_size(xs)?)),
-        Directive::Align => Ok(Statement::MoveTo(aligned(place.memory, read_alignment(xs)?))),
-        Directive::Numbers(width) => read_numbers(alloc, width, xs),
-        Directive::Zeros => Ok(Statement::Zeros(read_size(xs)?)),
-        Directive::Define => read_definition(xs),
+        Directive::Origin => Ok(Statement::MoveTo(read_size(tokens)?)),
+        Directive::Align => Ok(Statement::MoveTo(aligned(place.data_at, read_alignment(tokens)?))),
+        Directive::Numbers(width) => read_numbers(alloc, width, tokens),
+        Directive::Zeros => Ok(Statement::Zeros(read_size(tokens)?)),
+        Directive::Define => read_definition(tokens),
         Directive::Global => {
-            read_global(xs)?;
+            read_global(tokens)?;
             Ok(Statement::Nothing)
         }
     }
 }
 
 /// One number, up to the line's end.
-fn take_number<'x, 'a>(xs: &'x [Lexeme<'a>]) -> Whole<'x, 'a, Literal>
-    ensures { whole (λ n. n) result ≡ then_take (take_literal (lexemes xs.now)) ends }
+fn take_number<'x, 'a>(tokens: &'x [Lexeme<'a>]) -> Whole<'x, 'a, Literal>
+    ensures { whole (λ n. n) result ≡ then_take (take_literal (lexemes tokens.now)) ends }
 {
-    let (n, xs) = taken!(take_literal(xs));
-    whole!(n, xs)
+    let (n, tokens) = taken!(take_literal(tokens));
+    whole!(n, tokens)
 }
 
 /// A number of bytes, or an address.
-fn read_size(xs: &[Lexeme<'_>]) -> Result<u32, Misread>
-    ensures { IsNumberRead result is_size (lexemes xs.now) }
+fn read_size(tokens: &[Lexeme<'_>]) -> Result<u32, Misread>
+    ensures { IsNumberRead result is_size (lexemes tokens.now) }
 {
-    let n = taken!(take_number(xs));
+    let n = taken!(take_number(tokens));
     check_size(n).map_err(Misread::Number)
 }
 
 /// What the next address of data is a multiple of.
-fn read_alignment(xs: &[Lexeme<'_>]) -> Result<u32, Misread>
-    ensures number { IsNumberRead result is_alignment (lexemes xs.now) }
+fn read_alignment(tokens: &[Lexeme<'_>]) -> Result<u32, Misread>
+    ensures number { IsNumberRead result is_alignment (lexemes tokens.now) }
     ensures within { IfOk result (λ n. (0 < n) × (n ≤ 64)) }
 {
-    let n = taken!(take_number(xs));
+    let n = taken!(take_number(tokens));
     check_alignment(n).map_err(Misread::Number)
 }
 
@@ -141,21 +142,22 @@ fn aligned(address: u32, to: u32) -> u32
 }
 
 /// A name and its value.
-fn take_definition<'x, 'a>(xs: &'x [Lexeme<'a>]) -> Whole<'x, 'a, (Lexeme<'a>, Literal)>
-    ensures { whole (λ d. (lexeme d.0, d.1)) result ≡ take_definition (lexemes xs.now) }
+fn take_definition<'x, 'a>(tokens: &'x [Lexeme<'a>]) -> Whole<'x, 'a, (Lexeme<'a>, Literal)>
+    ensures definition { whole (λ d. (lexeme d.0, d.1)) result ≡ take_definition (lexemes tokens.now) }
+    ensures range { IfOk result (λ d. IfSome d.1.value (λ n. is_number n ≡ true)) }
 {
-    let (name, xs) = take_kind(TokenKind::Word, xs)?;
-    let (_, xs) = take_kind(TokenKind::Comma, xs)?;
-    let (n, xs) = taken!(take_literal(xs));
-    whole!((name, n), xs)
+    let (name, tokens) = take_kind(TokenKind::Word, tokens)?;
+    let (_, tokens) = take_kind(TokenKind::Comma, tokens)?;
+    let (n, tokens) = taken!(take_literal(tokens));
+    whole!((name, n), tokens)
 }
 
 /// The definition of a name.
-fn read_definition<'a>(xs: &[Lexeme<'a>]) -> Result<Statement<'a>, Misread>
-    ensures read { IsRead result (Asks (read_definition (take_definition (lexemes xs.now)))) }
+fn read_definition<'a>(tokens: &[Lexeme<'a>]) -> Result<Statement<'a>, Misread>
+    ensures read { IsRead result (Asks (read_definition (take_definition (lexemes tokens.now)))) }
     ensures sound { IfOk result (λ does. (in_data : Bool) → IsSound in_data does) }
 {
-    let (name, n) = taken!(take_definition(xs));
+    let (name, n) = taken!(take_definition(tokens));
     match check_value(n) {
         Ok(value) => Ok(Statement::Define(name, value)),
         Err(column) => Err(Misread::Number(column)),
@@ -163,21 +165,21 @@ fn read_definition<'a>(xs: &[Lexeme<'a>]) -> Result<Statement<'a>, Misread>
 }
 
 /// A name, which no other source asks for: it has no effect.
-#[tactic(auto, unfolding(crate::specs::Operands::take_kind))]
-fn read_global(xs: &[Lexeme<'_>]) -> Result<(), Misread>
-    ensures { IsPlainRead result Nothing (then_take (take_kind Word (lexemes xs.now)) (λ _ xs. ends Nothing xs)) }
+#[tactic(auto, unfolding(asm_operands::specs::Operands::take_kind))]
+fn read_global(tokens: &[Lexeme<'_>]) -> Result<(), Misread>
+    ensures { IsPlainRead result Nothing (then_take (take_kind Word (lexemes tokens.now)) (λ _ left. ends Nothing left)) }
 {
-    let (_, xs) = take_kind(TokenKind::Word, xs)?;
-    read_end(xs)
+    let (_, tokens) = take_kind(TokenKind::Word, tokens)?;
+    read_end(tokens)
 }
 
 /// The line's end.
-fn read_end(xs: &[Lexeme<'_>]) -> Result<(), Misread>
-    ensures { (does : _) → IsPlainRead result does (ends does (lexemes xs.now)) }
+fn read_end(tokens: &[Lexeme<'_>]) -> Result<(), Misread>
+    ensures { (does : _) → IsPlainRead result does (ends does (lexemes tokens.now)) }
 {
-    match xs {
+    match tokens {
         [] => Ok(()),
-        _ => Err(Misread::from(xs)),
+        _ => Err(Misread::from(tokens)),
     }
 }
 
@@ -186,12 +188,12 @@ fn read_end(xs: &[Lexeme<'_>]) -> Result<(), Misread>
 fn read_numbers<'a>(
     alloc: Global,
     width: Width,
-    xs: &[Lexeme<'a>],
+    tokens: &[Lexeme<'a>],
 ) -> Result<Statement<'a>, Misread>
-    ensures read { IsRead result (Asks (read_numbers (bytes_in width) (fits_in width) (lexemes xs.now))) }
+    ensures read { IsRead result (Asks (read_numbers (bytes_in width) (fits_in width) (lexemes tokens.now))) }
     ensures sound { IfOk result (λ does. (in_data : Bool) → (in_data ≡ false → width ≡ Width.Word) → IsSound in_data does) }
 {
-    let numbers = match take_exprs(alloc, xs) {
+    let numbers = match take_exprs(alloc, tokens) {
         Ok(numbers) => numbers,
         Err(Stop::Misfit(left)) => return Err(Misread::from(left)),
         Err(Stop::NoMemory) => return Err(Misread::NoMemory),

@@ -1,36 +1,10 @@
 //! What can be wrong with a source.
 
 ghost use Rattle.std.specs.Prelude.{◌≡◌};
-ghost use Rattle.asm_parse.specs.declared.fault.TokenFault.TheVariants.{NoMemory};
-ghost use Rattle.asm_parse.specs.declared.fault.AsmFault.TheVariants as asm_fault;
+ghost use Rattle.asm_parse.specs.declared.fault.AsmFault.TheVariants.{NoMemory};
 
 use std::alloc::{AllocError, AllocFailed};
 use thiserror::Error;
-
-/// Why a line gave no tokens.
-#[derive(Clone, Copy, Debug, PartialEq, Eq)]
-pub enum TokenFault {
-    /// A byte outside the comment that is no blank and begins no token, by its column, from 1 on.
-    Character(u32),
-    /// Memory ran out.
-    NoMemory,
-}
-
-impl From<AllocError> for TokenFault {
-    ghost from_gives = { λ _ e. e ≡ NoMemory };
-
-    fn from(_: AllocError) -> TokenFault {
-        TokenFault::NoMemory
-    }
-}
-
-impl<T: Drop> From<AllocFailed<T>> for TokenFault {
-    ghost from_gives = { λ _ e. e ≡ NoMemory };
-
-    fn from(_: AllocFailed<T>) -> TokenFault {
-        TokenFault::NoMemory
-    }
-}
 
 /// What is wrong with a line of assembly. Columns are counted in bytes, from 1 on.
 #[derive(Clone, Copy, Debug, PartialEq, Eq, Error)]
@@ -71,6 +45,7 @@ pub enum AsmCause {
 /// where that has none, of the second round, which gives names their values. Lines are counted from 1.
 #[derive(Clone, Copy, Debug, PartialEq, Eq, Error)]
 pub enum AsmFault {
+    /// What is wrong with the line of this number.
     #[error("line {0}: {1}")]
     At(u32, AsmCause),
     /// Memory ran out.
@@ -79,7 +54,7 @@ pub enum AsmFault {
 }
 
 impl From<AllocError> for AsmFault {
-    ghost from_gives = { λ _ e. e ≡ asm_fault.NoMemory };
+    ghost from_gives = { λ _ e. e ≡ NoMemory };
 
     fn from(_: AllocError) -> AsmFault {
         AsmFault::NoMemory
@@ -87,7 +62,7 @@ impl From<AllocError> for AsmFault {
 }
 
 impl<T: Drop> From<AllocFailed<T>> for AsmFault {
-    ghost from_gives = { λ _ e. e ≡ asm_fault.NoMemory };
+    ghost from_gives = { λ _ e. e ≡ NoMemory };
 
     fn from(_: AllocFailed<T>) -> AsmFault {
         AsmFault::NoMemory

@@ -1,6 +1,6 @@
 //! What a line puts into text or data.
 
-use crate::expr::{Expr, Imm, Part};
+use asm_operands::{Expr, Imm, Part};
 use pmsi_model::Instr;
 
 /// An instruction of a line.
@@ -19,15 +19,20 @@ pub enum Item<'a> {
 /// The instructions that a line stands for.
 #[derive(Clone, Copy, Debug, PartialEq, Eq)]
 pub enum Instrs<'a> {
+    /// One, as for most mnemonics.
     One(Item<'a>),
+    /// Two, as for an address or a long constant that is loaded, in the order in which they stand.
     Two(Item<'a>, Item<'a>),
 }
 
 /// How many bytes each number of a line of data has.
 #[derive(Clone, Copy, Debug, PartialEq, Eq)]
 pub enum Width {
+    /// One.
     Byte,
+    /// Two.
     Half,
+    /// Four.
     Word,
 }
 

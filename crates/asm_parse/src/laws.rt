@@ -1,12 +1,8 @@
-//! Laws of the definitions: each function has an empty body, and its contract is the law.
+//! Laws of lines: a function has an empty body, and its contract is the law. Those of tokens are in `asm_operands`.
 
-ghost use Rattle.asm_parse.specs.Laws.{TokensAreApart, TokensStandAtTheirStarts, LinesAreCut};
+ghost use Rattle.asm_parse.specs.Laws.{LinesAreCut};
 
-/// A line's tokens have bytes, lie within it, and none begins before the one in front of it ends.
-pub fn spans()
-    ensures apart { TokensAreApart }
-    ensures starts { TokensStandAtTheirStarts }
-{}
+pub use asm_operands::laws::spans;
 
 /// A line ends at the first newline, and one byte 13 in front of it is dropped; what stands after the last newline is
 /// a line only where it isn't empty.

@@ -3,16 +3,15 @@
 ghost use Rattle.std.specs.Prelude.{◌≡◌, IfSome, true};
 ghost use Rattle.pmsi_model.specs.declared.instr.Instr.TheVariants.{OpImm};
 ghost use Rattle.pmsi_model.specs.declared.instr.ImmOp.TheVariants.{Addi};
-ghost use Rattle.asm_parse.specs.Numbers.{is_number};
+ghost use Rattle.asm_operands.specs.Numbers.{is_number};
 ghost use Rattle.asm_parse.specs.Mnemonics.{load_address, load_constant, load_immediate};
-ghost use Rattle.asm_parse.specs.Meanings.{expr};
+ghost use Rattle.asm_operands.specs.Meanings.{expr};
 ghost use Rattle.asm_parse.specs.Items.{AreReady, instrs_of};
 
-use crate::expr::{Expr, Part};
 use crate::item::Instrs::{self, One, Two};
 use crate::item::Item;
-use crate::number::Number;
 use crate::parts::{high_part, in_32_bits, low_part};
+use asm_operands::{Expr, Number, Part};
 use pmsi_model::{ImmOp, Instr, Reg};
 
 /// The instructions that load an expression's value, or, where it has none, two that stand in for them.

@@ -2,11 +2,11 @@
 
 ghost use Rattle.std.specs.Prelude.{◌≡◌};
 ghost use Rattle.asm_parse.specs.declared.misread.Misread.TheVariants.{Operand};
-ghost use Rattle.asm_parse.specs.Meanings.{lexemes};
+ghost use Rattle.asm_operands.specs.Meanings.{lexemes};
 ghost use Rattle.asm_parse.specs.Readings.{first_column};
 
 use crate::fault::{AsmCause, AsmFault};
-use crate::lexeme::Lexeme;
+use asm_operands::Lexeme;
 
 /// Why a line isn't read.
 #[derive(Clone, Copy)]
@@ -26,7 +26,7 @@ impl From<&[Lexeme<'_>]> for Misread {
 
     /// The first of the tokens that are left doesn't fit.
     fn from(left: &[Lexeme<'_>]) -> Misread {
-        Misread::Operand(left.first().map(|x| x.column))
+        Misread::Operand(left.first().map(|token| token.column))
     }
 }
 
@@ -38,7 +38,8 @@ impl Misread {
     /// As the fault of the line of this number, which ends at this column.
     #[tactic(auto, using(crate::proofs::Misreads::word_first, crate::proofs::Misreads::operand_first, crate::proofs::Misreads::number_first))]
     pub(crate) fn at_line(self, number: u32, end: u32) -> AsmFault
-        ensures { (asks : Asked) → IsMisread self asks → result ≢ AsmFault.NoMemory → at_line number (first_of (word_fault asks ∷ operand_fault end asks ∷ number_fault asks ∷ [])) ≡ Some result }
+        ensures { (asks : Asked) → IsMisread self asks → result ≢ AsmFault.NoMemory →
+            at_line number (first_of (word_fault asks ∷ operand_fault end asks ∷ number_fault asks ∷ [])) ≡ Some result }
     {
         let cause = match self {
             Misread::Word(column) => AsmCause::Word(column),

@@ -3,7 +3,7 @@
 ghost use Rattle.std.specs.Prelude.{◌≡◌};
 ghost use Rattle.asm_parse.specs.Mnemonics.{in_32_bits, high_part, low_part};
 
-/// What is left of a number in 32 bits.
+/// What is left of a number in 32 bits: the number itself where it isn't below 0 and has 32 bits.
 pub fn in_32_bits(number: i64) -> u32
     ensures { result ≡ in_32_bits number }
 {

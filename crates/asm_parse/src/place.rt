@@ -1,10 +1,12 @@
 //! Where a line stands.
 
-/// Where a line stands: whether it goes to data or else to text, and the next addresses of text and of data, in bytes.
-/// Behind an `.org` the one of data may lie below data that stands already.
+/// Where a line stands: its space, and the next addresses of both.
 #[derive(Clone, Copy, Debug, PartialEq, Eq)]
 pub struct Place {
+    /// Whether it goes to data, or else to text.
     pub in_data: bool,
-    pub text: u32,
-    pub memory: u32,
+    /// The next address of text, in bytes.
+    pub text_at: u32,
+    /// The next address of data, in bytes. Behind an `.org` it may lie below data that stands already.
+    pub data_at: u32,
 }

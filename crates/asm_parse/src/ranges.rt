@@ -1,23 +1,15 @@
 //! Ranges of numbers.
 
 ghost use Rattle.std.specs.Prelude.{◌≡◌, ◌≤◌, ◌%◌, ◌==◌};
-ghost use Rattle.asm_parse.specs.Numbers.{is_number};
 ghost use Rattle.asm_parse.specs.Mnemonics.{in_32_bits, is_imm_12, part_of, reaches};
 ghost use Rattle.asm_parse.specs.Items.{takes, op_takes, fits_in};
 
-use crate::expr::Part;
 use crate::item::Width;
 use crate::parts::{high_part, low_part};
+use asm_operands::{Part, is_number};
 use pmsi_model::{ImmOp, Instr};
 
-/// Whether a source can have this number.
-pub fn is_number(n: i64) -> bool
-    ensures { result ≡ is_number n }
-{
-    (-2_147_483_648..=4_294_967_295).contains(&n)
-}
-
-/// Whether a number of data fits into so many bytes.
+/// Whether a number of data fits into so many bytes, with a sign or without one.
 pub fn fits_in(width: Width, n: i64) -> bool
     ensures { result ≡ fits_in width n }
 {
@@ -28,7 +20,8 @@ pub fn fits_in(width: Width, n: i64) -> bool
     }
 }
 
-/// Whether an instruction takes this immediate or offset.
+/// Whether an instruction takes this immediate or offset: offsets in bytes, the immediate of `lui` and `auipc` as its high
+/// twenty bits.
 pub fn takes(instr: Instr, n: i64) -> bool
     ensures { result ≡ takes instr n }
 {
@@ -41,7 +34,7 @@ pub fn takes(instr: Instr, n: i64) -> bool
     }
 }
 
-/// A part of a number.
+/// A part of a number: the number itself, its high twenty bits (below 2^20), or its low twelve (from -2048 to 2047).
 pub fn part_of(part: Part, n: i64) -> i64
     ensures { result ≡ part_of part n }
 {

@@ -12,8 +12,8 @@ use Rattle.pmsi_model.specs.Image.{ImageValue, IsImage, ArePieces, end_of}
 use Rattle.pmsi_model.specs.Instruction.{instr_of}
 use Rattle.pmsi_model.specs.Lines.{hex_word}
 use Rattle.asm_parse.specs.declared.place.Place.{Place}
-use Rattle.asm_parse.specs.Tokens.{is_name_byte, is_blank, is_strange, kind_of}
-use Rattle.asm_parse.specs.Operands.{Lexeme}
+use Rattle.asm_operands.specs.Tokens.{is_name_byte, is_blank, is_strange, kind_of}
+use Rattle.asm_operands.specs.Operands.{Lexeme}
 use Rattle.asm_parse.specs.Assembly.{Statement, Switch, Emit, MoveTo}
 use Rattle.asm_print.specs.ListingText.{text_of, text_line, text_lines, byte_line, byte_lines, piece_text, data_text, listing_text}
 use Rattle.asm_print.proofs.Spelling.{IsRead}

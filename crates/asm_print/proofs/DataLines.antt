@@ -7,11 +7,11 @@ use Rattle.std.proofs.lemmas.List.Elements.{All-head, All-tail}
 use Rattle.std.proofs.lemmas.List.Sums.{sum_by-cons}
 use borrow.Author.Tests.{tests}
 use Rattle.pmsi_model.specs.Lines.{hex_word}
-use Rattle.asm_parse.specs.declared.token.TokenKind.TheVariants.{Word, Number}
+use Rattle.asm_operands.specs.declared.token.TokenKind.TheVariants.{Word, Number}
 use Rattle.asm_parse.specs.declared.place.Place.{Place}
-use Rattle.asm_parse.specs.Tokens.{is_name_byte, kind_of}
-use Rattle.asm_parse.specs.Numbers.{number_spelt}
-use Rattle.asm_parse.specs.Operands.{Taken, Expr, take_kind, take_literal, take_expr, take_exprs, take_more}
+use Rattle.asm_operands.specs.Tokens.{is_name_byte, kind_of}
+use Rattle.asm_operands.specs.Numbers.{number_spelt}
+use Rattle.asm_operands.specs.Operands.{Taken, Expr, take_kind, take_literal, take_expr, take_exprs, take_more}
 use Rattle.asm_parse.specs.Mnemonics.{Item, forms_named, mnemonics}
 use Rattle.asm_parse.specs.Assembly.{Statement, Switch, Emit, MoveTo, Asks, Reads, Step, asked, labels_of, behind_labels, directive_named, directives, number_item, is_byte, is_size, first_of, first_wrong, unknown_item, named_number_fault, reach_fault, later_fault, placed, placed_from, code_at, code_bytes, bytes_by, size_of, names_of}
 use Rattle.asm_print.specs.ListingText.{byte_text}

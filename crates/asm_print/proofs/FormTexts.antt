@@ -1,9 +1,9 @@
 -- The operands of each form read back from their texts.
 use Rattle.std.proofs.Common.{◌≡◌, ℕ, ◌+◌, ◌<◌, true, List, [], refl}
 use Rattle.std.specs.Prelude.{ℤ}
-use Rattle.asm_parse.specs.Numbers.{is_number}
-use Rattle.asm_parse.specs.Operands.{Taken, Expr, Imm}
-use Rattle.asm_parse.specs.Mnemonics.{Item, form_rrr, form_ri, form_rri, form_rm, form_rrb, form_re, form_rre, take_ri, take_re, take_rm, take_rri, take_rre, take_rrr, take_rrb}
+use Rattle.asm_operands.specs.Numbers.{is_number}
+use Rattle.asm_operands.specs.Operands.{Taken, Expr, Imm, take_ri, take_re, take_rm, take_rri, take_rre, take_rrr, take_rrb}
+use Rattle.asm_parse.specs.Mnemonics.{Item, form_rrr, form_ri, form_rri, form_rm, form_rrb, form_re, form_rre}
 use Rattle.asm_print.proofs.Spelling.{written}
 use Rattle.asm_print.proofs.OperandTexts.{number_then, register_then, direct_then, comma_then, behind_register, number_expr, number_imm, expr, imm, register, base, memory, next}
 

@@ -1,33 +1,19 @@
 -- Texts that grow at the end.
-use Rattle.std.proofs.Common.{◌≡◌, ℕ, suc, ◌+◌, ◌-◌, ◌*◌, ◌/◌, ◌<◌, min, List, [], ◌∷◌, ◌++◌, length, map, take, drop, get_or, codes, refl, sym, ap, ◌∙◌, subst, append_assoc, arith, zero-add, add-zero}
+use Rattle.std.proofs.Common.{◌≡◌, ℕ, suc, ◌+◌, ◌-◌, ◌*◌, ◌/◌, ◌<◌, min, List, [], ◌∷◌, ◌++◌, length, map, take, drop, get_or, codes, refl, sym, ap, ◌∙◌, subst, append_assoc, arith}
 use Rattle.std.specs.List.{flat_map}
-use Rattle.std.proofs.lemmas.List.{append-nil, take_more, take_all, take_min, drop_min, length-take-le, length-drop}
+use Rattle.std.proofs.lemmas.List.{take_all, take_min, drop_min, length-drop}
 use Rattle.asm_print.specs.ListingText.{text_line, text_lines, byte_text, byte_line, byte_lines, piece_text}
 use Rattle.pmsi_model.specs.declared.image.Piece.{Piece}
 use Rattle.pmsi_model.specs.Lines.{hex_word}
+use Rattle.text_out.proofs.Exports.{IsByPlaces, further}
 
-grow : (a b d e : List ℕ) → e ≡ b ++ d → a ++ e ≡ a ++ b ++ d
-grow a b d e h = ap (λ x. a ++ x) h ∙ sym (append_assoc a b d)
-
--- the line of one word more
-next_line : (place : ℕ) (words : List ℕ) (word : ℕ) → text_lines place (words ++ word ∷ []) ≡ text_lines place words ++ text_line (4 * (place + length words)) word
-next_line place [] word = rw add-zero (append-nil (text_line (4 * place) word))
-next_line place (w ∷ words) word =
-    let P : ℕ → Type 0 = λ n. text_lines (place + 1) (words ++ word ∷ []) ≡ text_lines (place + 1) words ++ text_line (4 * n) word in
-    let same : place + 1 + length words ≡ place + length (w ∷ words) = omega arith in
-    grow (text_line (4 * place) w) (text_lines (place + 1) words) (text_line (4 * (place + length (w ∷ words))) word) (text_lines (place + 1) (words ++ word ∷ [])) (subst P same (next_line (place + 1) words word))
-
-next_taken : (words : List ℕ) (k : ℕ) → k < length words → text_lines 0 (take (k + 1) words) ≡ text_lines 0 (take k words) ++ text_line (4 * k) (get_or words k 0)
-next_taken words k within =
-    let number : 0 + length (take k words) ≡ k = zero-add _ ∙ length-take-le k words (omega arith) in
-    let P : ℕ → Type 0 = λ n. text_lines 0 (take k words ++ get_or words k 0 ∷ []) ≡ text_lines 0 (take k words) ++ text_line (4 * n) (get_or words k 0) in
-    ap (λ taken. text_lines 0 taken) (take_more words k 0 within) ∙ subst P number (next_line 0 (take k words) (get_or words k 0))
+by_addresses : IsByPlaces text_lines (λ place word. text_line (4 * place) word)
+by_addresses = record { none = λ place. refl; more = λ place word words. refl }
 
 -- the lines of the words below place k, and then that of word k
 pub lines_further : (start before after words : List ℕ) (k : ℕ) → k < length words → before ≡ start ++ text_lines 0 (take k words) → after ≡ before ++ text_line (4 * k) (get_or words k 0) →
     after ≡ start ++ text_lines 0 (take (k + 1) words)
-lines_further start before after words k within h g =
-    g ∙ ap (λ text. text ++ text_line (4 * k) (get_or words k 0)) h ∙ append_assoc start (text_lines 0 (take k words)) (text_line (4 * k) (get_or words k 0)) ∙ ap (λ text. start ++ text) (sym (next_taken words k within))
+lines_further = further text_lines (λ place word. text_line (4 * place) word) by_addresses
 
 -- ---- lines of bytes
 

@@ -14,12 +14,12 @@ use Rattle.pmsi_model.specs.Words.{word_of}
 use Rattle.pmsi_model.proofs.Encodings.{reads_one_way}
 use Rattle.pmsi_model.proofs.Cases.{by_bool}
 use Rattle.rv_decode.specs.Ranges.{IsSigned, IsOffset, IsImmOf}
-use Rattle.rv_decode.proofs.Rows.{IsPutBack, encoding_back}
-use Rattle.asm_parse.specs.declared.token.TokenKind.TheVariants.{Word, Number}
+use Rattle.rv_decode.proofs.Exports.{IsPutBack, encoding_back}
+use Rattle.asm_operands.specs.declared.token.TokenKind.TheVariants.{Word, Number}
 use Rattle.asm_parse.specs.declared.place.Place.{Place}
-use Rattle.asm_parse.specs.Tokens.{is_name_byte, kind_of}
-use Rattle.asm_parse.specs.Numbers.{number_spelt, is_number}
-use Rattle.asm_parse.specs.Operands.{take_kind, take_literal, take_expr, take_exprs, take_more}
+use Rattle.asm_operands.specs.Tokens.{is_name_byte, kind_of}
+use Rattle.asm_operands.specs.Numbers.{number_spelt, is_number}
+use Rattle.asm_operands.specs.Operands.{take_kind, take_literal, take_expr, take_exprs, take_more}
 use Rattle.asm_parse.specs.Mnemonics.{Item, Known, Instruction, forms_named, mnemonics, ready, with_imm, jump_to, branch_to, reaches, is_imm_12, is_imm_20, fence_word, form_ri, form_rm}
 use Rattle.asm_parse.specs.Assembly.{Asks, Reads, Emit, asked, labels_of, behind_labels, directive_named, directives, number_item, first_of}
 use Rattle.asm_print.specs.InstrText.{spelled, word_text, target_text, fence_text, instr_text}

@@ -21,8 +21,8 @@ use Rattle.pmsi_model.specs.Image.{ImageValue, IsImage, ArePieces, end_of}
 use Rattle.pmsi_model.specs.Instruction.{instr_of}
 use Rattle.pmsi_model.proofs.Encodings.{reads_one_way}
 use Rattle.rv_decode.specs.Ranges.{IsSigned, IsInRange}
-use Rattle.rv_decode.proofs.Rows.{encoding_back}
-use Rattle.asm_parse.specs.Numbers.{is_number}
+use Rattle.rv_decode.proofs.Exports.{encoding_back}
+use Rattle.asm_operands.specs.Numbers.{is_number}
 use Rattle.asm_print.specs.InstrText.{spelled, word_text, target_text, fence_text, instr_text}
 use Rattle.asm_print.specs.ListingText.{text_of, text_line, text_lines, byte_text, byte_line, byte_lines, piece_text, data_text, listing_text}
 use Rattle.asm_print.specs.Names.{branch_name, load_name, store_name, imm_name, op_name, amo_name, ordering_suffix}

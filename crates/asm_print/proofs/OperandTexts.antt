@@ -4,11 +4,11 @@ use Rattle.std.specs.Prelude.{ℤ, pos, negsuc, decimal}
 use Rattle.std.specs.Fmt.{signed_decimal}
 use Rattle.std.proofs.lemmas.Int.{ints}
 use borrow.Author.Tests.{tests}
-use Rattle.asm_parse.specs.declared.token.TokenKind.TheVariants.{Word, Number, Comma, Open, Close, Minus}
-use Rattle.asm_parse.specs.declared.expr.Part.TheVariants.{Whole}
-use Rattle.asm_parse.specs.Tokens.{is_name_byte, kind_of}
-use Rattle.asm_parse.specs.Numbers.{is_number}
-use Rattle.asm_parse.specs.Operands.{Lexeme, Took, Taken, Expr, Imm, take_kind, take_literal, take_expr, take_imm, take_register, take_in_parentheses, take_memory, take_base, take_next}
+use Rattle.asm_operands.specs.declared.token.TokenKind.TheVariants.{Word, Number, Comma, Open, Close, Minus}
+use Rattle.asm_operands.specs.declared.expr.Part.TheVariants.{Whole}
+use Rattle.asm_operands.specs.Tokens.{is_name_byte, kind_of}
+use Rattle.asm_operands.specs.Numbers.{is_number}
+use Rattle.asm_operands.specs.Operands.{Lexeme, Took, Taken, Expr, Imm, take_kind, take_literal, take_expr, take_imm, take_register, take_in_parentheses, take_memory, take_base, take_next}
 use Rattle.asm_print.specs.Operands.{register_text}
 use Rattle.asm_print.proofs.Spelling.{Part, Run, Mark, Gap, spelling, written, IsMark, AreParts, begins_run}
 use Rattle.asm_print.proofs.Spelt.{decimal_run, decimal_spelt, register_spelt, register_run}

@@ -5,7 +5,7 @@ use Rattle.std.proofs.lemmas.Int.{ints}
 use borrow.Author.Tests.{tests}
 use Rattle.pmsi_model.specs.Words.{word_of}
 use Rattle.rv_decode.specs.Ranges.{IsSigned, IsOffset, IsShift}
-use Rattle.asm_parse.specs.Numbers.{is_number}
+use Rattle.asm_operands.specs.Numbers.{is_number}
 use Rattle.asm_parse.specs.Mnemonics.{in_32_bits, is_imm_12, is_imm_20, is_shift, reaches}
 
 pub imm_12 : (z : ℤ) → IsSigned 12 z → is_imm_12 z ≡ true
@@ -25,9 +25,6 @@ imm_20 n low = grind (arith, ints, tests)
 
 pub natural_number : (n : ℕ) → n < 2 ^ 32 → is_number (pos n) ≡ true
 natural_number n low = grind (arith, ints, tests)
-
-pub natural_word : (n : ℕ) → n < 2 ^ 32 → word_of (pos n) ≡ n
-natural_word n low = omega (arith, ints)
 
 even_pos : (n : ℕ) → word_of (pos n) % 2 ≡ 0 → (in_32_bits (pos n) % 2 == 0) ≡ true
 even_pos n even = grind (arith, ints, tests)

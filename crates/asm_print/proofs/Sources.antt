@@ -13,7 +13,7 @@ use Rattle.pmsi_model.proofs.Cases.{by_bool}
 use Rattle.asm_parse.specs.Lines.{lines_of}
 use Rattle.asm_parse.specs.Mnemonics.{Item}
 use Rattle.asm_parse.specs.Assembly.{Before, Statement, Switch, Emit, MoveTo, has_byte, size_of, steps_from, steps_of, run_by, asm_fault, text_of, data_of, first_of, byte_at, IsWordOf, IsAssembled}
-use Rattle.asm_parse.proofs.LineCuts.{none}
+use Rattle.asm_parse.proofs.Exports.{none}
 use Rattle.asm_print.specs.ListingText.{text_line, text_lines, byte_line, byte_lines, piece_text, data_text, listing_text}
 use Rattle.asm_print.specs.ListingText.{text_of as word_text_of}
 use Rattle.asm_print.proofs.TextLines.{IsTextLine}
@@ -54,10 +54,10 @@ switch_placed : (address : ℕ) (to_data : Bool) → address ≤ 65536 → IsPla
 switch_placed address to_data low = record { nameless = refl; text = grind (arith, tests); range = refl; overlap = refl }
 
 switch_gives : (number address : ℕ) (to_data : Bool) (line rest words : List ℕ) (bytes : List (ℕ × List ℕ)) → address ≤ 65536 → IsPlain line (at_text address) (Switch to_data) →
-    Gives (number + 1) (before (record { in_data = to_data; text = address; memory = 0 }) []) rest words bytes → Gives number (before (at_text address) []) (line ++ 10 ∷ rest) words bytes
+    Gives (number + 1) (before (record { in_data = to_data; text_at = address; data_at = 0 }) []) rest words bytes → Gives number (before (at_text address) []) (line ++ 10 ∷ rest) words bytes
 switch_gives number address to_data line rest words bytes low plain give =
     subst (λ steps. Give steps words bytes) (sym (steps_are number (at_text address) [] line rest (Switch to_data) plain (switch_placed address to_data low)))
-    (give_switch number address to_data (steps_from (number + 1) (before (record { in_data = to_data; text = address; memory = 0 }) []) (lines_of rest)) words bytes give)
+    (give_switch number address to_data (steps_from (number + 1) (before (record { in_data = to_data; text_at = address; data_at = 0 }) []) (lines_of rest)) words bytes give)
 
 word_placed : (address : ℕ) (item : Item) → address + 4 ≤ 65536 → IsPlaced (at_text address) [] (Emit ((4, item) ∷ []))
 word_placed address item low = record { nameless = refl; text = grind (arith, tests); range = refl; overlap = refl }

@@ -4,15 +4,15 @@ use Rattle.std.specs.Prelude.{slice_index, ◌==◌}
 use Rattle.std.specs.List.{All, list_all, prefix_len, position, position_or_len}
 use Rattle.std.proofs.lemmas.List.{get_or-drop, get_or_default, take_at, drop_at, drop-drop, get_or_at, append-nil, append_assoc, take_all}
 use Rattle.std.proofs.lemmas.List.Sums.{position_or_len_is}
-use Rattle.std.proofs.lemmas.Bool.{le-ltb, ne_eqb}
+use Rattle.std.proofs.lemmas.Bool.{ne_eqb}
 use borrow.Author.Tests.{tests}
-use Rattle.asm_parse.specs.declared.token.Token.{Token}
-use Rattle.asm_parse.specs.declared.token.TokenKind.{TokenKind}
-use Rattle.asm_parse.specs.Tokens.{is_name_byte, is_blank, is_strange, kind_of, code_of, tokens_of, end_at}
+use Rattle.asm_operands.specs.declared.token.Token.{Token}
+use Rattle.asm_operands.specs.declared.token.TokenKind.{TokenKind}
+use Rattle.asm_operands.specs.Tokens.{is_name_byte, is_blank, is_strange, kind_of, code_of, tokens_of, end_at}
 use Rattle.asm_parse.specs.Lines.{lines_of}
-use Rattle.asm_parse.specs.Operands.{Lexeme, lexeme_of, lexemes_of}
-use Rattle.asm_parse.proofs.Places.{Reached, starts, takes, skips}
-use Rattle.asm_parse.proofs.LineCuts.{first, kept}
+use Rattle.asm_operands.specs.Operands.{Lexeme, lexeme_of, lexemes_of}
+use Rattle.asm_operands.proofs.Exports.{Reached, starts, takes, skips, nowhere}
+use Rattle.asm_parse.proofs.Exports.{first, kept}
 
 -- a run of name bytes, a mark, or a space
 pub data Part : Type 0 where
@@ -197,16 +197,13 @@ strange_35 = refl
 clash : (b c : ℕ) → is_strange b ≡ false → is_strange c ≡ true → b ≢ c
 clash b c plain strange same = let not : is_strange c ≡ false = subst (λ n. is_strange n ≡ false) same plain in absurd (cc)
 
-nowhere : (test : ℕ → Bool) (xs : List ℕ) → ((k : ℕ) → k < length xs → test (get_or xs k 0) ≡ false) → position_or_len test xs ≡ length xs
-nowhere test xs none = position_or_len_is test xs (length xs) 0 (omega arith) none (λ low. absurd (omega arith))
-
-nowhere_none : (test : ℕ → Bool) (xs : List ℕ) → position_or_len test xs ≡ length xs → position test xs ≡ None
-nowhere_none test xs first = rw first (rw (le-ltb (length xs) (length xs) (omega arith)) refl)
+at_end : (test : ℕ → Bool) (xs : List ℕ) → ((k : ℕ) → k < length xs → test (get_or xs k 0) ≡ false) → position_or_len test xs ≡ length xs
+at_end test xs none = position_or_len_is test xs (length xs) 0 (omega arith) none (λ low. absurd (omega arith))
 
 no_comment : (line : List ℕ) → ((k : ℕ) → k < length line → get_or line k 0 ≢ 35) → code_of line ≡ line
 unfolding code_of
 no_comment line none =
-    let end : position_or_len (λ b. b == 35) line ≡ length line = nowhere (λ b. b == 35) line (λ k low. ne_eqb (get_or line k 0) 35 (none k low)) in
+    let end : position_or_len (λ b. b == 35) line ≡ length line = at_end (λ b. b == 35) line (λ k low. ne_eqb (get_or line k 0) 35 (none k low)) in
     ap (λ n. take n line) end ∙ take_all (length line) line (omega arith)
 
 tokens_are : (line : List ℕ) (tokens : List Token) → Reached line (length line) tokens → tokens_of line ≡ tokens
@@ -221,7 +218,7 @@ spelled parts fit =
     let plain : (k : ℕ) → k < length line → is_strange (get_or line k 0) ≡ false = all'.plain in
     record {
       code = no_comment line (λ k low. clash (get_or line k 0) 35 (plain k low) strange_35);
-      plain = nowhere_none is_strange line (nowhere is_strange line plain);
+      plain = nowhere is_strange line (at_end is_strange line plain);
       lexemes = ap (map (lexeme_of line)) (tokens_are line (tokens_at 0 parts) all') ∙ texts line 0 parts refl;
       lines = λ rest.
           let newlines : All (λ b. b ≢ 10) line = λ k d low. subst (λ b. b ≢ 10) (get_or_default line k 0 d low) (clash (get_or line k 0) 10 (plain k low) strange_10) in

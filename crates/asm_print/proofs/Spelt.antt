@@ -11,9 +11,9 @@ use Rattle.std.proofs.Math.Arith.{mod-mul}
 use borrow.Author.Tests.{tests}
 use Rattle.pmsi_model.specs.Lines.{hex_digits}
 use Rattle.pmsi_model.specs.Lines.{digit_of as hex_digit}
-use Rattle.asm_parse.specs.declared.token.TokenKind.TheVariants.{Word, Number}
-use Rattle.asm_parse.specs.Tokens.{is_name_byte, kind_of}
-use Rattle.asm_parse.specs.Numbers.{digit_of, with_digit, digits_behind, digits_number, number_spelt, register_named}
+use Rattle.asm_operands.specs.declared.token.TokenKind.TheVariants.{Word, Number}
+use Rattle.asm_operands.specs.Tokens.{is_name_byte, kind_of}
+use Rattle.asm_operands.specs.Numbers.{digit_of, with_digit, digits_behind, digits_number, number_spelt, registers, register_named}
 use Rattle.asm_print.specs.Operands.{register_text}
 use Rattle.asm_print.proofs.Spelling.{IsRun}
 
@@ -164,7 +164,7 @@ passes_at test (suc n) k all low = elim (cases_lt k n) [
 ]
 
 register_reads : passes (λ r. is_some_of r (register_named (register_text r))) 32 ≡ true
-unfolding passes is_some_of register_named digits
+unfolding passes is_some_of registers register_named digits
 register_reads = refl
 
 pub register_spelt : (r : ℕ) → r < 32 → register_named (register_text r) ≡ Some r

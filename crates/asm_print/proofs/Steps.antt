@@ -4,7 +4,7 @@ use Rattle.std.specs.Prelude.{not}
 use Rattle.std.specs.List.{AllZip, filter, flat_map}
 use Rattle.asm_parse.specs.declared.place.Place.{Place}
 use Rattle.asm_parse.specs.Lines.{lines_of}
-use Rattle.asm_parse.specs.Operands.{Lexeme}
+use Rattle.asm_operands.specs.Operands.{Lexeme}
 use Rattle.asm_parse.specs.Mnemonics.{Item}
 use Rattle.asm_parse.specs.Assembly.{Before, Statement, Nothing, Switch, Emit, Zeros, MoveTo, Define, Asks, Reads, Step, asked, first_of, labels_of, behind_labels, reading_fault, placing_fault, first_twice, text_fault, range_fault, overlap_fault, defined_by, step_of, after_step, steps_from, moved, run_by, names_of, placed, placed_from, later_fault, first_fault, codes_of, bytes_by, IsWordOf}
 use Rattle.asm_print.proofs.Spelling.{IsRead}
@@ -73,17 +73,17 @@ pub record Give (steps : List Step) (words : List ℕ) (bytes : List (ℕ × Lis
   pub names : names_of steps ≡ []
   pub later : first_fault (later_fault []) steps ≡ None
   pub text : AllZip IsWordOf (flat_map (codes_of []) (filter (λ step. not step.place.in_data) steps)) words
-  pub runs : map (λ step. (step.place.memory, bytes_by [] step)) (filter (λ step. step.place.in_data) steps) ≡ bytes
+  pub runs : map (λ step. (step.place.data_at, bytes_by [] step)) (filter (λ step. step.place.in_data) steps) ≡ bytes
 
 pub give_none : Give [] [] []
 unfolding first_of names_of
 give_none = record { first = refl; names = refl; later = refl; text = tt; runs = refl }
 
 abbrev pub at_text : ℕ → Place
-at_text address = record { in_data = false; text = address; memory = 0 }
+at_text address = record { in_data = false; text_at = address; data_at = 0 }
 
 abbrev pub at_data : ℕ → ℕ → Place
-at_data text address = record { in_data = true; text = text; memory = address }
+at_data text address = record { in_data = true; text_at = text; data_at = address }
 
 pub give_switch : (number address : ℕ) (to_data : Bool) (steps : List Step) (words : List ℕ) (bytes : List (ℕ × List ℕ)) → Give steps words bytes →
     Give (plain_step number (at_text address) (Switch to_data) ∷ steps) words bytes

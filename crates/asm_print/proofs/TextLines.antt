@@ -21,11 +21,11 @@ use Rattle.pmsi_model.specs.declared.instr.AmoOp.TheVariants.{Amoadd, Amoswap, A
 use Rattle.pmsi_model.specs.Instruction.{IsEncodingOf}
 use Rattle.pmsi_model.specs.Words.{word_of}
 use Rattle.rv_decode.specs.Ranges.{IsSigned, IsShift, IsImmOf}
-use Rattle.asm_parse.specs.declared.token.TokenKind.TheVariants.{Word}
+use Rattle.asm_operands.specs.declared.token.TokenKind.TheVariants.{Word}
 use Rattle.asm_parse.specs.declared.place.Place.{Place}
-use Rattle.asm_parse.specs.Tokens.{is_name_byte, kind_of}
-use Rattle.asm_parse.specs.Numbers.{is_number}
-use Rattle.asm_parse.specs.Operands.{Lexeme, Taken}
+use Rattle.asm_operands.specs.Tokens.{is_name_byte, kind_of}
+use Rattle.asm_operands.specs.Numbers.{is_number}
+use Rattle.asm_operands.specs.Operands.{Lexeme, Taken}
 use Rattle.asm_parse.specs.Mnemonics.{Item, Known, Distant, Instruction, Form, take_forms, forms_named, mnemonics, ready, with_imm, jump_to, branch_to, is_imm_12, is_imm_20, is_shift, no_operands, form_rrr, form_ri, form_rri, form_rm, form_rrb, form_re, form_rre, form_r, form_e, form_ff, fence_word}
 use Rattle.asm_parse.specs.Assembly.{Asks, Reads, Emit, asked, first_of, labels_of, behind_labels, wrong_item, unknown_item, named_number_fault, reach_fault, code_at, IsWordOf, number_item}
 use Rattle.asm_print.specs.Names.{branch_name, load_name, store_name, imm_name, op_name, amo_name, ordering_suffix}

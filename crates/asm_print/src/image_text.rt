@@ -3,33 +3,19 @@ ghost use Rattle.std.specs.Prelude.{◌≡◌, ◌+◌, ◌*◌, ◌/◌, ◌<�
 ghost use Rattle.std.specs.List.{flat_map};
 ghost use Rattle.std.specs.Str.{IsUtf8};
 ghost use Rattle.pmsi_model.specs.declared.limits.TheConstants.{MAX_TEXT_WORDS, MAX_FILE_BYTES};
-ghost use Rattle.pmsi_model.specs.Lines.{hex_word as word_digits};
 ghost use Rattle.pmsi_model.specs.Instruction.{instr_of};
 ghost use Rattle.asm_parse.specs.Assembly.{IsAssembled};
 ghost use Rattle.asm_print.specs.InstrText.{instr_text, word_text};
 ghost use Rattle.asm_print.specs.ListingText.{text_of, text_line, text_lines, byte_text, byte_line, byte_lines, piece_text, data_text, listing_text};
 
-use crate::digits::{hex_byte, hex_word};
 use crate::printer::print_instr;
 use arrayvec::ArrayVec;
 use pmsi_model::{Image, Instr, NoMemory, Piece};
 use rv_decode::decode;
 use std::alloc::{AllocError, Global};
+use text_out::{push_hex, push_hex_byte, push_newline, push_text};
 
 const BYTES_PER_LINE: usize = 16;
-
-fn push_text(out: &mut Vec<u8>, text: &str) -> Result<(), AllocError>
-    ensures { OnOk result (out.new.items ≡ out.old.items ++ text.now) }
-{
-    out.extend_from_slice(text.as_bytes())
-}
-
-/// Appends `0x` and eight hexadecimal digits.
-fn push_hex(out: &mut Vec<u8>, n: u32) -> Result<(), AllocError>
-    ensures { OnOk result (out.new.items ≡ out.old.items ++ word_digits n) }
-{
-    out.extend_from_slice(&hex_word(n))
-}
 
 /// Appends a word as a number.
 fn push_word_directive(out: &mut Vec<u8>, word: u32) -> Result<(), AllocError>
@@ -61,7 +47,7 @@ fn push_text_line(out: &mut Vec<u8>, pc: u32, word: u32) -> Result<(), AllocErro
     ensures { OnOk result (out.new.items ≡ out.old.items ++ text_line pc word) }
 {
     push_word(out, pc, word)?;
-    push_text(out, "\n")
+    push_newline(out)
 }
 
 fn push_text_lines(out: &mut Vec<u8>, words: &[u32]) -> Result<(), AllocError>
@@ -77,7 +63,8 @@ fn push_text_lines(out: &mut Vec<u8>, words: &[u32]) -> Result<(), AllocError>
 fn push_byte(out: &mut Vec<u8>, byte: u8) -> Result<(), AllocError>
     ensures { OnOk result (out.new.items ≡ out.old.items ++ byte_text byte) }
 {
-    out.extend_from_slice(&hex_byte(byte))
+    push_text(out, "0x")?;
+    push_hex_byte(out, byte)
 }
 
 fn push_next_byte(out: &mut Vec<u8>, byte: u8) -> Result<(), AllocError>
@@ -103,7 +90,7 @@ fn push_byte_line(out: &mut Vec<u8>, bytes: &[u8]) -> Result<(), AllocError>
     push_text(out, ".byte ")?;
     push_byte(out, bytes[0])?;
     push_next_bytes(out, &bytes[1..])?;
-    push_text(out, "\n")
+    push_newline(out)
 }
 
 fn push_byte_lines(out: &mut Vec<u8>, bytes: &[u8]) -> Result<(), AllocError>
@@ -124,7 +111,7 @@ fn push_piece(out: &mut Vec<u8>, piece: &Piece) -> Result<(), AllocError>
 {
     push_text(out, ".org ")?;
     push_hex(out, piece.address)?;
-    push_text(out, "\n")?;
+    push_newline(out)?;
     push_byte_lines(out, piece.bytes.as_slice())
 }
 

@@ -1,7 +1,6 @@
 //! Instructions and images as assembly text.
 #![tactic(auto)]
 
-mod digits;
 mod image_text;
 mod line;
 mod mnemonics;

@@ -10,6 +10,7 @@ use pmsi_model::Reg;
 /// Room for the text of any instruction.
 pub type Line = ArrayVec<u8, 64>;
 
+/// Appends bytes, for which there is room.
 pub fn put_bytes(line: &mut Line, bytes: &[u8])
     requires { array_vec_len line.old + length bytes.now ≤ 64 }
     ensures text { line.new.items ≡ line.old.items ++ bytes.now }
@@ -20,6 +21,7 @@ pub fn put_bytes(line: &mut Line, bytes: &[u8])
     };
 }
 
+/// Appends a text, for which there is room.
 pub fn put_text(line: &mut Line, text: &str)
     requires { array_vec_len line.old + length text.now ≤ 64 }
     ensures text { line.new.items ≡ line.old.items ++ text.now }

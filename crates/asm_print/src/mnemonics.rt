@@ -4,6 +4,7 @@ ghost use Rattle.asm_print.specs.Names.{branch_name, load_name, store_name, imm_
 
 use pmsi_model::{AmoOp, BranchOp, ImmOp, LoadOp, RegOp, StoreOp};
 
+/// The mnemonic of a branch.
 pub fn branch_name(op: BranchOp) -> &'static str
     ensures name { result.now ≡ branch_name op }
     ensures short { length result.now ≤ 4 }
@@ -18,6 +19,7 @@ pub fn branch_name(op: BranchOp) -> &'static str
     }
 }
 
+/// The mnemonic of a load.
 pub fn load_name(op: LoadOp) -> &'static str
     ensures name { result.now ≡ load_name op }
     ensures short { length result.now ≤ 3 }
@@ -31,6 +33,7 @@ pub fn load_name(op: LoadOp) -> &'static str
     }
 }
 
+/// The mnemonic of a store.
 pub fn store_name(op: StoreOp) -> &'static str
     ensures name { result.now ≡ store_name op }
     ensures short { length result.now ≤ 2 }
@@ -42,6 +45,7 @@ pub fn store_name(op: StoreOp) -> &'static str
     }
 }
 
+/// The mnemonic of an operation with an immediate.
 pub fn imm_name(op: ImmOp) -> &'static str
     ensures name { result.now ≡ imm_name op }
     ensures short { length result.now ≤ 5 }
@@ -59,6 +63,7 @@ pub fn imm_name(op: ImmOp) -> &'static str
     }
 }
 
+/// The mnemonic of an operation on registers.
 pub fn op_name(op: RegOp) -> &'static str
     ensures name { result.now ≡ op_name op }
     ensures short { length result.now ≤ 4 }
@@ -77,6 +82,7 @@ pub fn op_name(op: RegOp) -> &'static str
     }
 }
 
+/// The mnemonic of an AMO, without its ordering bits.
 pub fn amo_name(op: AmoOp) -> &'static str
     ensures name { result.now ≡ amo_name op }
     ensures short { length result.now ≤ 9 }

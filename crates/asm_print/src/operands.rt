@@ -9,7 +9,9 @@ use pmsi_model::Reg;
 /// The last operand of an instruction.
 #[derive(Clone, Copy)]
 pub enum Operand {
+    /// A register by its name.
     Register(Reg),
+    /// A number in decimal digits.
     Number(i64),
     /// An offset from the address in a register.
     Offset(i32, Reg),

@@ -4,7 +4,6 @@ ghost use Rattle.asm_print.specs.Operands.{register_text, operand_text};
 ghost use Rattle.asm_print.specs.declared.operands.Operand.TheVariants.{Number, Offset};
 ghost use Rattle.asm_print.specs.InstrText.{spelled, fence_text, instr_text};
 
-use crate::digits::hex_word;
 use crate::line::{put_bytes, put_text};
 use crate::mnemonics::{
     amo_name, branch_name, imm_name, load_name, op_name, ordering_suffix, store_name,
@@ -12,6 +11,7 @@ use crate::mnemonics::{
 use crate::operands::{Operand, put_three, put_two};
 use arrayvec::ArrayVec;
 use pmsi_model::{Instr, Reg};
+use text_out::hex_word;
 
 /// The fence that orders all accesses.
 const FENCE: u32 = 0x0ff0_000f;

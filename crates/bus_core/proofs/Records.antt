@@ -1,24 +1,20 @@
 -- The actions of a run, and the last of them.
-use Rattle.std.proofs.Common.{◌≡◌, ℕ, zero, suc, ◌+◌, ◌-◌, ◌<◌, ◌≤◌, List, [], ◌∷◌, ◌++◌, length, Some, None, ◌&&◌, nat_lt, nat_le, if◌then◌else◌, refl, sym, ap, ◌∙◌, arith, add-one, length-append, length-drop}
+use Rattle.std.proofs.Common.{◌≡◌, ℕ, zero, suc, ◌+◌, ◌-◌, ◌<◌, ◌≤◌, List, [], ◌∷◌, ◌++◌, length, Some, None, ◌&&◌, nat_lt, nat_le, if◌then◌else◌, refl, sym, ap, ◌∙◌, arith, length-append, length-drop}
 use mathlib.Core.Logic.{dite}
 use native.Mathlib.Decide.{ℕ_discrete}
 use Rattle.std.specs.List.{slice_get}
 use Rattle.circular_buffer.proofs.Places.{slice_get-drop, slice_get-append_left, slice_get-append_right}
-use Rattle.pmsi_model.specs.declared.job.Geometry.{Geometry}
 use Rattle.pmsi_model.specs.Job.{JobValue}
+use Rattle.pmsi_model.specs.Slots.{plan_of, gap_of}
 use Rattle.pmsi_model.specs.Run.{records, record_at}
 use Rattle.pmsi_model.specs.Shared.{BusSide, last_of}
 use Rattle.pmsi_model.specs.Parts.{IsBusPart}
 use Rattle.pmsi_model.proofs.Cases.{by_bool}
-use Rattle.bus_core.specs.Records.{recent_at}
+use Rattle.bus_core.specs.Records.{is_recent, recent_at}
 
 pub first_records : (job : JobValue) → records job 0 ≡ []
 unfolding records
 first_records job = refl
-
-pub next_records : (job : JobValue) (slot : ℕ) → records job (slot + 1) ≡ records job slot ++ record_at job slot ∷ []
-unfolding records
-next_records job slot = rw add-one refl
 
 more_records : (job : JobValue) (slot : ℕ) → records job (suc slot) ≡ records job slot ++ record_at job slot ∷ []
 unfolding records
@@ -62,7 +58,5 @@ recent_held job n slot s = by_bool (nat_lt slot s && nat_le s (slot + n))
 
 -- the bus has the records of the last slots of its job
 pub recent_of_job : (job : JobValue) (s slot : ℕ) (b : BusSide) → IsBusPart job s b
-    → recent_at slot b ≡ (if nat_lt slot s && nat_le s (slot + job.shape.cores) then Some (record_at job slot) else None)
-recent_of_job job s slot b is =
-    let cores : b.memory.shape.cores ≡ job.shape.cores = ap (λ (shape : Geometry). shape.cores) is.memory.shape in
-    rw (is.now, cores, is.recent) (recent_held job job.shape.cores slot s)
+    → recent_at slot b ≡ (if is_recent (plan_of job) slot s then Some (record_at job slot) else None)
+recent_of_job job s slot b is = rw (is.now, is.plan, is.recent) (recent_held job (gap_of (plan_of job)) slot s)

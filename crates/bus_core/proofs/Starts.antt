@@ -4,12 +4,14 @@ use Rattle.std.proofs.Math.Seq.{drop-nil}
 use Rattle.pmsi_model.specs.declared.job.Geometry.{Geometry}
 use Rattle.pmsi_model.specs.declared.Action.{Action}
 use Rattle.pmsi_model.specs.Job.{JobValue}
+use Rattle.pmsi_model.specs.Slots.{SlotPlan, gap_of, plan_of}
 use Rattle.pmsi_model.specs.Machine.{owner_of}
 use Rattle.pmsi_model.specs.Run.{start_of}
 use Rattle.pmsi_model.specs.Shared.{SharedValue, IsShared, owner_in}
 use Rattle.pmsi_model.specs.Parts.{IsBusPart, word_at}
 use Rattle.pmsi_model.proofs.Cases.{by_bool}
 use Rattle.pmsi_model.proofs.Boundaries.{first_machine}
+use Rattle.bus_core.specs.Records.{side_with}
 use Rattle.bus_core.proofs.Records.{first_records}
 
 start_posted : (job : JobValue) → (start_of job).posted ≡ []
@@ -32,11 +34,11 @@ same_shape job m is same =
     let o = is.owners in let w = is.words in
     (rw (← words) (omega arith), rw (← memory) w)
 
-pub opened : (job : JobValue) (m : SharedValue) (recent : List Action) (keeps : Bool) (trace : List Action)
-    → IsShared m → m.shape ≡ job.shape → m.posted ≡ [] → ((line : ℕ) → owner_in m line ≡ None)
+pub opened : (job : JobValue) (m : SharedValue) (plan : SlotPlan) (recent : List Action) (keeps : Bool) (trace : List Action)
+    → IsShared m → m.shape ≡ job.shape → plan ≡ plan_of job → m.posted ≡ [] → ((line : ℕ) → owner_in m line ≡ None)
     → ((i : ℕ) → i < length m.words → slice_index m.words i ≡ word_at job.start i) → recent ≡ [] → trace ≡ []
-    → IsBusPart job 0 (record { memory = m; slot = 0; recent = recent; keeps = keeps; trace = trace })
-opened job m recent keeps trace is shape posted none words no_recent no_trace = record {
+    → IsBusPart job 0 (side_with m plan 0 recent keeps trace)
+opened job m plan recent keeps trace is shape by posted none words no_recent no_trace = record {
   memory = record {
     shape = shape;
     posted = rw (first_machine, start_posted) posted;
@@ -45,8 +47,9 @@ opened job m recent keeps trace is shape posted none words no_recent no_trace = 
     size = (same_shape job m is shape).1;
     words = λ i below free. rw (first_machine, start_memory) (words i below);
   };
+  plan = by;
   now = refl;
   within = omega arith;
-  recent = rw (no_recent, first_records) (sym (drop-nil (0 - job.shape.cores)));
+  recent = rw (no_recent, first_records) (sym (drop-nil (0 - gap_of (plan_of job))));
   trace = rw (no_trace, first_records) (by_bool keeps (λ kept. rw kept refl) (λ not_kept. rw not_kept refl));
 }

@@ -1,16 +1,19 @@
 //! The bus of a machine.
-ghost use Rattle.std.specs.Prelude.{◌≡◌, ℕ, ◌+◌, ◌<◌, ◌≤◌, [], ◌∷◌, ◌++◌, ◌&&◌, Option, Some, None, true, is_some, if◌then◌else◌, nat_lt, nat_le, IfOk};
+ghost use Rattle.std.specs.Prelude.{◌≡◌, ℕ, ◌+◌, ◌<◌, ◌≤◌, [], ◌∷◌, ◌++◌, ◌&&◌, Option, Some, None, true, is_some, if◌then◌else◌, IfOk};
 ghost use Rattle.std.specs.Vec.{vec_len, vec_capacity};
 ghost use Rattle.pmsi_model.specs.Job.{JobValue};
 ghost use Rattle.pmsi_model.specs.Shared.{owner_in, ended};
 ghost use Rattle.pmsi_model.specs.Run.{record_at, records};
 ghost use Rattle.pmsi_model.specs.Parts.{IsBusPart};
-ghost use Rattle.bus_core.specs.Records.{IsBus, recent_at, slots_kept};
+ghost use Rattle.pmsi_model.specs.Slots.{plan_of};
+ghost use Rattle.bus_core.specs.Records.{IsBus, is_recent, recent_at, slots_kept};
 
-use arrayvec::ArrayVec;
 use circular_buffer::HeapCircularBuffer;
 use memory_lut::SharedMemory;
-use pmsi_model::{Action, Behind, BusPort, Job, Keep, Name, NoMemory, Posted};
+use pmsi_model::{
+    Action, Behind, BusPort, Job, Keep, LineWords, Name, NoMemory, Posted, SlotTable,
+};
+use slot_plan::gap;
 use std::alloc::Global;
 use std::marker::Model;
 
@@ -18,8 +21,9 @@ use std::marker::Model;
 #[derive(Drop)]
 pub struct Bus {
     memory: SharedMemory,
+    plan: SlotTable,
     slot: u32,
-    /// The actions of the last slots, at most as many as there are cores.
+    /// The actions of the last slots, at most as many as lie between two own slots of a core.
     recent: HeapCircularBuffer<Action>,
     keeps: bool,
     /// The actions of all slots, where they are kept.
@@ -30,13 +34,17 @@ impl Model for Bus {
     ghost use Rattle.std.specs.Prelude.{◌≡◌, ◌≤◌};
     ghost use Rattle.std.specs.Vec.{vec_capacity};
     ghost use Rattle.pmsi_model.specs.Shared.{BusSide};
-    ghost use Rattle.bus_core.specs.Records.{IsBus, slots_kept};
+    ghost use Rattle.bus_core.specs.Records.{IsBus, side_with, slots_kept};
+    ghost use Rattle.pmsi_model.specs.Slots.{gap_of};
 
     ghost Value = { BusSide };
 
-    ghost view = { λ a. record { memory = a.memory; slot = a.slot; recent = a.recent.items; keeps = a.keeps; trace = a.trace.items } };
+    ghost view = { λ a. side_with a.memory a.plan a.slot a.recent.items a.keeps a.trace.items };
 
-    ghost invariant = { λ a. IsBus (record { memory = a.memory; slot = a.slot; recent = a.recent.items; keeps = a.keeps; trace = a.trace.items }) × (a.recent.capacity ≡ a.memory.shape.cores) × (slots_kept a.keeps a.memory.shape.slots ≤ vec_capacity a.trace) };
+    ghost invariant = { λ a.
+        IsBus (side_with a.memory a.plan a.slot a.recent.items a.keeps a.trace.items)
+        × (a.recent.capacity ≡ gap_of a.plan)
+        × (slots_kept a.keeps a.memory.shape.slots ≤ vec_capacity a.trace) };
 }
 
 /// An empty list with room for a trace of so many slots, where it is kept.
@@ -97,15 +105,19 @@ impl Bus {
         ensures owners { IfOk result (λ b. (line : ℕ) → owner_in b.memory line ≡ None) }
     {
         let shape = job.shape();
+        let plan = SlotTable::plain(shape.cores);
+        let recent = HeapCircularBuffer::with_capacity(alloc, gap(&plan) as usize)?;
         Ok(Bus {
             memory: SharedMemory::new(alloc, shape, job.start())?,
+            plan,
             slot: 0,
-            recent: HeapCircularBuffer::with_capacity(alloc, shape.cores as usize)?,
+            recent,
             keeps: keep.trace,
             trace: trace_with_room(alloc, keep.trace, shape.slots)?,
         })
     }
 
+    /// The shared memory, with the posted requests and the owners of lines.
     pub fn memory(&self) -> &SharedMemory
         ensures memory { result.now ≡ self.now.memory }
         ensures bus { IsBus self.now }
@@ -113,9 +125,24 @@ impl Bus {
         &self.memory
     }
 
+    /// Whose slots they are.
+    pub fn table(&self) -> &SlotTable
+        ensures table { result.now ≡ self.now.plan }
+        ensures bus { IsBus self.now }
+    {
+        &self.plan
+    }
+
+    /// Whether the actions of all slots are kept.
+    pub fn keeps(&self) -> bool
+        ensures { result ≡ self.now.keeps }
+    {
+        self.keeps
+    }
+
     fn recent_action(&self, slot: u32) -> Option<Action>
         ensures action { result ≡ recent_at slot self.now }
-        ensures known { is_some result ≡ (nat_lt slot self.now.slot && nat_le self.now.slot (slot + self.now.memory.shape.cores)) }
+        ensures known { is_some result ≡ is_recent self.now.plan slot self.now.slot }
     {
         if slot >= self.slot {
             return None;
@@ -124,11 +151,12 @@ impl Bus {
         self.recent.nth_back(back as usize).copied()
     }
 
-    /// The action of one of the last slots, of which there are as many as cores.
+    /// The action of one of the last slots, as many as lie between two own slots of a core.
     pub fn record_at(&self, slot: u32) -> Option<Action>
         ensures recent { result ≡ recent_at slot self.now }
-        ensures known { is_some result ≡ (nat_lt slot self.now.slot && nat_le self.now.slot (slot + self.now.memory.shape.cores)) }
-        ensures of_job { (job : JobValue) (s : ℕ) → IsBusPart job s self.now → result ≡ (if nat_lt slot s && nat_le s (slot + job.shape.cores) then Some (record_at job slot) else None) }
+        ensures known { is_some result ≡ is_recent self.now.plan slot self.now.slot }
+        ensures of_job { (job : JobValue) (s : ℕ) → IsBusPart job s self.now →
+            result ≡ (if is_recent (plan_of job) slot s then Some (record_at job slot) else None) }
     {
         self.recent_action(slot)
     }
@@ -141,12 +169,14 @@ impl Bus {
         self.trace.as_slice()
     }
 
+    /// An equal bus, with all room that it will need.
     pub fn copy(&self, alloc: Global) -> Result<Bus, NoMemory>
         ensures { IfOk result (λ b. b ≡ self.now) }
     {
         let slots = self.memory.shape().slots;
         Ok(Bus {
             memory: self.memory.copy(alloc)?,
+            plan: self.plan.copy(),
             slot: self.slot,
             recent: recent_copy(alloc, &self.recent)?,
             keeps: self.keeps,
@@ -176,7 +206,7 @@ impl BusPort for Bus {
         self.memory.ready(core)
     }
 
-    fn post(&mut self, core: u32, line: u32, name: Name, words: &mut ArrayVec<u32, 16>) -> Posted {
+    fn post(&mut self, core: u32, line: u32, name: Name, words: &mut LineWords) -> Posted {
         self.memory.post(core, line, name.kind());
         if self.memory.ready(core) {
             self.memory.fill(core, words);
@@ -188,7 +218,7 @@ impl BusPort for Bus {
         }
     }
 
-    fn fill(&mut self, core: u32, line: u32, words: &mut ArrayVec<u32, 16>) -> Behind {
+    fn fill(&mut self, core: u32, line: u32, words: &mut LineWords) -> Behind {
         let behind = self.memory.fill(core, words);
         self.end(Action::Fill(line));
         behind

@@ -2,6 +2,7 @@
 #![tactic(auto)]
 
 mod bus;
+pub mod laws;
 
 pub use bus::Bus;
 

@@ -3,10 +3,11 @@ ghost use Rattle.pmsi_model.specs.Geometry.{IsGeometry};
 ghost use Rattle.pmsi_model.specs.Shared.{IsOwnSlot, CanPost, CanFill};
 
 use crate::Bus;
-use arrayvec::ArrayVec;
 use pmsi_model::{
-    Action, Behind, BusPort, Bytes, Geometry, Job, Keep, Name, NoMemory, Posted, WordLists, Words,
+    Action, Behind, BusPort, Bytes, Geometry, Job, Keep, LineWords, Name, NoMemory, Posted,
+    WordLists, Words,
 };
+use slot_plan::owner;
 use std::alloc::Global;
 
 /// A job of three cores with empty texts.
@@ -27,7 +28,7 @@ fn is_own_slot(bus: &Bus, core: u32) -> bool
     ensures below { IsTrue result → core < bus.now.memory.shape.cores }
 {
     let shape = bus.memory().shape();
-    bus.slot() < shape.slots && bus.slot() % shape.cores == core
+    bus.slot() < shape.slots && owner(bus.table(), bus.slot()) == core
 }
 
 /// Whether a core may post a request for line 0.
@@ -50,7 +51,7 @@ fn can_fill(bus: &Bus, core: u32) -> bool
 }
 
 /// Posts a request for line 0, where the core may.
-fn post(bus: &mut Bus, core: u32, name: Name, words: &mut ArrayVec<u32, 16>) -> Option<Posted> {
+fn post(bus: &mut Bus, core: u32, name: Name, words: &mut LineWords) -> Option<Posted> {
     if is_own_slot(bus, core) && can_post(bus, core) {
         Some(bus.post(core, 0, name, words))
     } else {
@@ -59,7 +60,7 @@ fn post(bus: &mut Bus, core: u32, name: Name, words: &mut ArrayVec<u32, 16>) -> 
 }
 
 /// Fills line 0, where the core may.
-fn fill(bus: &mut Bus, core: u32, words: &mut ArrayVec<u32, 16>) -> Option<Behind> {
+fn fill(bus: &mut Bus, core: u32, words: &mut LineWords) -> Option<Behind> {
     if is_own_slot(bus, core) && can_fill(bus, core) {
         Some(bus.fill(core, 0, words))
     } else {
@@ -77,6 +78,8 @@ fn back(bus: &mut Bus, core: u32, words: &[u32]) -> bool {
         false
     }
 }
+
+fn sends<T: Send>(_value: &T) {}
 
 #[test]
 fn serves_three_cores_in_posting_order(rt: HostRuntime) {
@@ -100,7 +103,8 @@ fn serves_three_cores_in_posting_order(rt: HostRuntime) {
     let Ok(mut bus) = Bus::open(rt.alloc(), &job, keep) else {
         panic!(rt; "no memory")
     };
-    let mut words = ArrayVec::new();
+    sends(&bus);
+    let mut words = LineWords::new();
     assert_eq!(rt;
         post(&mut bus, 0, Name::GetM, &mut words),
         Some(Posted::Filled)

@@ -11,52 +11,31 @@ use Rattle.pmsi_model.specs.declared.Mode.TheVariants.{Shared}
 use Rattle.pmsi_model.specs.declared.job.Geometry.{Geometry}
 use Rattle.pmsi_model.specs.declared.Mode.{Mode}
 use Rattle.pmsi_model.specs.Geometry.{IsGeometry, line_bytes, set_of}
-use Rattle.pmsi_model.specs.Machine.{mode_of, without, to_front, with_mode}
+use Rattle.pmsi_model.specs.Machine.{mode_of, to_front}
 use Rattle.pmsi_model.specs.Phase.{set_lines}
-use Rattle.pmsi_model.specs.Coherent.{HoldsEachOnce}
+use Rattle.pmsi_model.proofs.Held.{once_without, once_to_front, once_with_mode, fewer_without, same_with_mode}
 use Rattle.cache_array.specs.declared.line.CachedLine.{CachedLine}
 use Rattle.cache_array.specs.Cache.{CacheValue, IsCache, HasWords, held_of, words_of, entry_of, others, touched, put_first, with_line_mode, with_word, word_place}
-use Rattle.cache_array.proofs.Lines.{mode_of-without, mode_of-with_mode, held_of-others, held_of-with_line_mode, held_of-with_word, mode_of-entry, entry_line}
+use Rattle.cache_array.proofs.Lines.{held_of-others, held_of-with_line_mode, held_of-with_word, mode_of-entry, entry_line}
 use Rattle.cache_array.proofs.Places.{others_absent}
-
--- ---- no line is held twice
-
-pub once-without : (line : ℕ) (held : List (ℕ × Mode)) → HoldsEachOnce held → HoldsEachOnce (without line held)
-once-without line [] once = once
-once-without line (h ∷ hs) once = grind (arith, once-without line hs once.1, mode_of-without line h.0 hs, once.0)
-
-pub once-to_front : (line : ℕ) (mode : Mode) (held : List (ℕ × Mode)) → HoldsEachOnce held → HoldsEachOnce (to_front line mode held)
-once-to_front line mode held once = (grind (arith, mode_of-without line line held), once-without line held once)
-
-pub once-with_mode : (line : ℕ) (mode : Mode) (held : List (ℕ × Mode)) → HoldsEachOnce held → HoldsEachOnce (with_mode line mode held)
-once-with_mode line mode [] once = once
-once-with_mode line mode (h ∷ hs) once = grind (arith, once-with_mode line mode hs once.1, mode_of-with_mode line h.0 mode hs, once.0)
 
 -- ---- the lines of a set
 
-pub set_lines-without : (shape : Geometry) (line k : ℕ) (held : List (ℕ × Mode)) → length (set_lines shape k (without line held)) ≤ length (set_lines shape k held)
-set_lines-without shape line k [] = grind arith
-set_lines-without shape line k (h ∷ hs) = grind (arith, set_lines-without shape line k hs)
-
 set_lines-held : (shape : Geometry) (line k : ℕ) (mode : Mode) (held : List (ℕ × Mode)) → mode_of line held ≢ None → length (set_lines shape k (to_front line mode held)) ≤ length (set_lines shape k held)
 set_lines-held shape line k mode [] n = grind arith
-set_lines-held shape line k mode (h ∷ hs) n = grind (arith, set_lines-held shape line k mode hs, set_lines-without shape line k hs)
+set_lines-held shape line k mode (h ∷ hs) n = grind (arith, set_lines-held shape line k mode hs, fewer_without shape k line hs)
 
 set_lines-same : (shape : Geometry) (line k : ℕ) (held : List (ℕ × Mode)) → set_of shape line ≡ set_of shape k → set_lines shape line held ≡ set_lines shape k held
 set_lines-same shape line k held e = ap (λ (s : ℕ). filter (λ (h : ℕ × Mode). set_of shape h.0 == s) held) e
 
 set_lines-room : (shape : Geometry) (line k : ℕ) (mode : Mode) (held : List (ℕ × Mode)) → length (set_lines shape line held) < shape.ways → length (set_lines shape k held) ≤ shape.ways
     → length (set_lines shape k (to_front line mode held)) ≤ shape.ways
-set_lines-room shape line k mode held room within = grind (arith, set_lines-same shape line k held, set_lines-without shape line k held)
+set_lines-room shape line k mode held room within = grind (arith, set_lines-same shape line k held, fewer_without shape k line held)
 
 set_lines-put : (shape : Geometry) (line k : ℕ) (mode : Mode) (held : List (ℕ × Mode)) → mode_of line held ≢ None ⊎ (length (set_lines shape line held) < shape.ways) → length (set_lines shape k held) ≤ shape.ways
     → length (set_lines shape k (to_front line mode held)) ≤ shape.ways
 set_lines-put shape line k mode held (inl n) within = let less = set_lines-held shape line k mode held n in omega arith
 set_lines-put shape line k mode held (inr room) within = set_lines-room shape line k mode held room within
-
-pub set_lines-with_mode : (shape : Geometry) (line k : ℕ) (mode : Mode) (held : List (ℕ × Mode)) → length (set_lines shape k (with_mode line mode held)) ≡ length (set_lines shape k held)
-set_lines-with_mode shape line k mode [] = refl
-set_lines-with_mode shape line k mode (h ∷ hs) = grind (arith, set_lines-with_mode shape line k mode hs)
 
 -- ---- words
 
@@ -90,7 +69,7 @@ pub IsCache-put_first : (c : CacheValue) (line : ℕ) (mode : Mode) (words : Lis
     → IsCache (record { shape = c.shape; lines = put_first line mode words c.lines })
 IsCache-put_first c line mode words is room long = record {
   shape = is.shape;
-  once = rw (held_of-others line c.lines) (once-to_front line mode (held_of c.lines) is.once);
+  once = rw (held_of-others line c.lines) (once_to_front line mode (held_of c.lines) is.once);
   within = λ k. rw (held_of-others line c.lines) (set_lines-put c.shape line k mode (held_of c.lines) room (is.within k));
   words = (long, words-others c.shape.line_words line c.lines is.words);
 }
@@ -98,8 +77,8 @@ IsCache-put_first c line mode words is room long = record {
 pub IsCache-others : (c : CacheValue) (line : ℕ) → IsCache c → IsCache (record { shape = c.shape; lines = others line c.lines })
 IsCache-others c line is = record {
   shape = is.shape;
-  once = rw (held_of-others line c.lines) (once-without line (held_of c.lines) is.once);
-  within = λ k. rw (held_of-others line c.lines) (let a = is.within k in let b = set_lines-without c.shape line k (held_of c.lines) in omega arith);
+  once = rw (held_of-others line c.lines) (once_without line (held_of c.lines) is.once);
+  within = λ k. rw (held_of-others line c.lines) (let a = is.within k in let b = fewer_without c.shape k line (held_of c.lines) in omega arith);
   words = words-others c.shape.line_words line c.lines is.words;
 }
 
@@ -118,8 +97,8 @@ IsCache-touched c line is = IsCache-fronted c line (entry_of line c.lines) is re
 pub IsCache-with_line_mode : (c : CacheValue) (line : ℕ) (mode : Mode) → IsCache c → IsCache (record { shape = c.shape; lines = with_line_mode line mode c.lines })
 IsCache-with_line_mode c line mode is = record {
   shape = is.shape;
-  once = rw (held_of-with_line_mode line mode c.lines) (once-with_mode line mode (held_of c.lines) is.once);
-  within = λ k. rw (held_of-with_line_mode line mode c.lines, set_lines-with_mode c.shape line k mode (held_of c.lines)) (is.within k);
+  once = rw (held_of-with_line_mode line mode c.lines) (once_with_mode line mode (held_of c.lines) is.once);
+  within = λ k. rw (held_of-with_line_mode line mode c.lines, same_with_mode c.shape k line mode (held_of c.lines)) (is.within k);
   words = words-with_line_mode c.shape.line_words line mode c.lines is.words;
 }
 

@@ -1,4 +1,5 @@
-pub mod Lines
-pub mod Places
-pub mod Keeps
-pub mod Victim
+mod Lines
+mod Places
+mod Keeps
+mod Victim
+pub mod Exports

@@ -1,31 +1,11 @@
 -- The readings of a list of lines after each change.
-use Rattle.std.proofs.Common.{◌≡◌, ℕ, List, [], ◌∷◌, ◌++◌, Option, Some, None, is_some, ◌==◌, if◌then◌else◌, set, refl, ap, ◌∙◌, arith}
+use Rattle.std.proofs.Common.{◌≡◌, ℕ, List, [], ◌∷◌, ◌++◌, Option, Some, None, ◌==◌, if◌then◌else◌, set, refl, ap, ◌∙◌, arith}
 use Rattle.std.specs.Option.{option_to_list, option_map}
 use Rattle.pmsi_model.specs.declared.Mode.{Mode}
 use Rattle.pmsi_model.specs.Machine.{mode_of, without, to_front, with_mode}
 use Rattle.pmsi_model.specs.Phase.{touched_line}
 use Rattle.cache_array.specs.declared.line.CachedLine.{CachedLine}
 use Rattle.cache_array.specs.Cache.{held_of, words_of, entry_of, others, touched, put_first, with_line_mode, with_word}
-
--- ---- the mode of a line in the held list
-
-pub mode_of-without : (line k : ℕ) (held : List (ℕ × Mode)) → mode_of k (without line held) ≡ (if k == line then None else mode_of k held)
-mode_of-without line k [] = grind arith
-mode_of-without line k (h ∷ hs) = grind (arith, mode_of-without line k hs)
-
-pub mode_of-to_front : (line k : ℕ) (mode : Mode) (held : List (ℕ × Mode)) → mode_of k (to_front line mode held) ≡ (if k == line then Some mode else mode_of k held)
-mode_of-to_front line k mode held = grind (arith, mode_of-without line k held)
-
-pub mode_of-with_mode : (line k : ℕ) (mode : Mode) (held : List (ℕ × Mode)) → mode_of k (with_mode line mode held) ≡ (if k == line then (if is_some (mode_of line held) then Some mode else None) else mode_of k held)
-mode_of-with_mode line k mode [] = grind arith
-mode_of-with_mode line k mode (h ∷ hs) = grind (arith, mode_of-with_mode line k mode hs)
-
-mode_of-touched : (line k : ℕ) (mode : Option Mode) (held : List (ℕ × Mode)) → mode_of line held ≡ mode → mode_of k (touched_line mode line held) ≡ mode_of k held
-mode_of-touched line k None held e = refl
-mode_of-touched line k (Some mode) held e = grind (arith, mode_of-to_front line k mode held)
-
-pub mode_of-touched_line : (line k : ℕ) (held : List (ℕ × Mode)) → mode_of k (touched_line (mode_of line held) line held) ≡ mode_of k held
-mode_of-touched_line line k held = mode_of-touched line k (mode_of line held) held refl
 
 pub without-absent : (line : ℕ) (held : List (ℕ × Mode)) → mode_of line held ≡ None → without line held ≡ held
 without-absent line [] e = refl

@@ -1,11 +1,10 @@
 -- The search for the least recently used line of a set, from the front.
-use Rattle.std.proofs.Common.{◌≡◌, ◌≢◌, ℕ, ◌+◌, ◌<◌, ◌≤◌, List, [], ◌∷◌, length, drop, get_or, Option, Some, None, ◌==◌, if◌then◌else◌, refl, sym, ap, ◌∙◌, subst, arith}
+use Rattle.std.proofs.Common.{◌≡◌, ℕ, ◌+◌, ◌≤◌, List, [], ◌∷◌, length, drop, Option, Some, None, ◌==◌, if◌then◌else◌, refl, ◌∙◌, subst, arith}
 use Rattle.std.specs.List.{last_or}
 use Rattle.std.specs.Option.{option_map}
-use Rattle.std.proofs.lemmas.List.{drop_more, drop_all}
+use Rattle.std.proofs.lemmas.List.{drop_all}
 use Rattle.pmsi_model.specs.declared.job.Geometry.{Geometry}
 use Rattle.pmsi_model.specs.declared.Mode.{Mode}
-use Rattle.pmsi_model.specs.Geometry.{set_of}
 use Rattle.pmsi_model.specs.Machine.{mode_of}
 use Rattle.pmsi_model.specs.Phase.{set_lines, evicted}
 use Rattle.cache_array.specs.declared.line.CachedLine.{CachedLine}
@@ -25,28 +24,6 @@ pub record Seen (shape : Geometry) (line : ℕ) (lines rest : List CachedLine) (
   pub mode : mode_of line (held_of lines) ≡ mode_of line (held_of rest)
   pub counted : length (set_lines shape line (held_of lines)) ≡ count + length (set_lines shape line (held_of rest))
   pub latest : last_line None (set_lines shape line (held_of lines)) ≡ last_line last (set_lines shape line (held_of rest))
-
-pub seen_none : (shape : Geometry) (line : ℕ) (lines : List CachedLine) → Seen shape line lines (drop 0 lines) 0 None
-seen_none shape line lines = record { mode = refl; counted = omega arith; latest = refl }
-
-skipped : (shape : Geometry) (line : ℕ) (lines rest : List CachedLine) (l : CachedLine) (count : ℕ) (last : Option ℕ) → Seen shape line lines (l ∷ rest) count last → l.line ≢ line → set_of shape l.line ≢ set_of shape line → Seen shape line lines rest count last
-skipped shape line lines rest l count last seen other away = record { mode = grind (arith, seen.mode); counted = grind (arith, seen.counted); latest = grind (arith, seen.latest) }
-
-taken : (shape : Geometry) (line : ℕ) (lines rest : List CachedLine) (l : CachedLine) (count : ℕ) (last : Option ℕ) → Seen shape line lines (l ∷ rest) count last → l.line ≢ line → set_of shape l.line ≡ set_of shape line → Seen shape line lines rest (count + 1) (Some l.line)
-taken shape line lines rest l count last seen other same = record { mode = grind (arith, seen.mode); counted = grind (arith, seen.counted); latest = grind (arith, seen.latest) }
-
-at_place : (shape : Geometry) (line : ℕ) (lines : List CachedLine) (i : ℕ) (l : CachedLine) (count : ℕ) (last : Option ℕ) → i < length lines → l ≡ get_or lines i l → Seen shape line lines (drop i lines) count last → Seen shape line lines (l ∷ drop (i + 1) lines) count last
-at_place shape line lines i l count last h here seen = subst (λ (rest : List CachedLine). Seen shape line lines rest count last) (drop_more lines i l h ∙ ap (λ (x : CachedLine). x ∷ drop (i + 1) lines) (sym here)) seen
-
-pub seen_skip : (shape : Geometry) (line : ℕ) (lines : List CachedLine) (i : ℕ) (l : CachedLine) (count : ℕ) (last : Option ℕ) → Seen shape line lines (drop i lines) count last → i < length lines → l ≡ get_or lines i l → l.line ≢ line → set_of shape l.line ≢ set_of shape line → Seen shape line lines (drop (i + 1) lines) count last
-seen_skip shape line lines i l count last seen h here other away = skipped shape line lines (drop (i + 1) lines) l count last (at_place shape line lines i l count last h here seen) other away
-
-pub seen_take : (shape : Geometry) (line : ℕ) (lines : List CachedLine) (i : ℕ) (l : CachedLine) (count : ℕ) (last : Option ℕ) → Seen shape line lines (drop i lines) count last → i < length lines → l ≡ get_or lines i l → l.line ≢ line → set_of shape l.line ≡ set_of shape line → Seen shape line lines (drop (i + 1) lines) (count + 1) (Some l.line)
-seen_take shape line lines i l count last seen h here other same = taken shape line lines (drop (i + 1) lines) l count last (at_place shape line lines i l count last h here seen) other same
-
--- the line itself is met
-pub seen_held : (shape : Geometry) (line : ℕ) (lines : List CachedLine) (i : ℕ) (l : CachedLine) (count : ℕ) (last : Option ℕ) → Seen shape line lines (drop i lines) count last → i < length lines → l ≡ get_or lines i l → l.line ≡ line → option_map (λ h. h.0) (evicted shape line (held_of lines)) ≡ None
-seen_held shape line lines i l count last seen h here same = let met = (at_place shape line lines i l count last h here seen).mode in grind (arith, met)
 
 -- all are seen
 pub seen_all : (shape : Geometry) (line : ℕ) (lines : List CachedLine) (i : ℕ) (count : ℕ) (last : Option ℕ) → Seen shape line lines (drop i lines) count last → length lines ≤ i

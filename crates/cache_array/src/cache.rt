@@ -6,9 +6,8 @@ ghost use Rattle.pmsi_model.specs.Machine.{mode_of, without, to_front, with_mode
 ghost use Rattle.pmsi_model.specs.Phase.{set_lines, touched_line, evicted};
 ghost use Rattle.cache_array.specs.Cache.{IsCache, Holds, held_of, words_of, entry_of, word_place, others, touched, put_first, with_line_mode, with_word};
 
-use crate::{CachedLine, LineWords, entries};
-use arrayvec::ArrayVec;
-use pmsi_model::{Geometry, Mode, NoMemory};
+use crate::{CachedLine, CachedWords, entries};
+use pmsi_model::{Geometry, LineWords, Mode, NoMemory};
 use std::alloc::Global;
 use std::marker::Model;
 
@@ -53,6 +52,7 @@ impl CacheArray {
         })
     }
 
+    /// An equal cache, with room for all its lines.
     pub fn copy(&self, alloc: Global) -> Result<CacheArray, NoMemory>
         ensures { IfOk result (λ c. c ≡ self.now) }
     {
@@ -66,6 +66,7 @@ impl CacheArray {
         })
     }
 
+    /// The shape of the machine that the cache is of.
     pub fn shape(&self) -> Geometry
         ensures shape { result ≡ self.now.shape }
         ensures cache { IsCache self.now }
@@ -144,7 +145,7 @@ impl CacheArray {
             CachedLine {
                 line,
                 mode,
-                words: LineWords::from_slice(words),
+                words: CachedWords::from_slice(words),
             },
         );
     }
@@ -186,9 +187,13 @@ impl CacheArray {
     pub fn write_word(&mut self, address: u32, word: u32)
         requires aligned { address % 4 ≡ 0 }
         requires held { Holds (line_of self.old.shape address) self.old.lines }
-        ensures after { self.new ≡ record self.old { lines = with_word (line_of self.old.shape address) (word_place self.old.shape address) word self.old.lines } }
+        ensures after { self.new ≡ record self.old {
+          lines = with_word (line_of self.old.shape address) (word_place self.old.shape address) word self.old.lines;
+        } }
         ensures held { held_of self.new.lines ≡ held_of self.old.lines }
-        ensures words { (k : ℕ) → words_of k self.new.lines ≡ (if k == line_of self.old.shape address then slice_set (words_of (line_of self.old.shape address) self.old.lines) (word_place self.old.shape address) word else words_of k self.old.lines) }
+        ensures words { (k : ℕ) → words_of k self.new.lines ≡ (if k == line_of self.old.shape address
+            then slice_set (words_of (line_of self.old.shape address) self.old.lines) (word_place self.old.shape address) word
+            else words_of k self.old.lines) }
     {
         let place = entries::held_place(&self.entries, self.shape.line_of(address));
         let at = address % self.shape.line_bytes() / 4;
@@ -197,7 +202,7 @@ impl CacheArray {
     }
 
     /// Copies the words of a line.
-    pub fn copy_line(&self, line: u32, words: &mut ArrayVec<u32, 16>)
+    pub fn copy_line(&self, line: u32, words: &mut LineWords)
         requires { Holds line self.now.lines }
         ensures { words.new.items ≡ words_of line self.now.lines }
     {

@@ -6,7 +6,7 @@ mod entries;
 mod line;
 
 pub use cache::CacheArray;
-pub use line::{CachedLine, LineWords};
+pub use line::{CachedLine, CachedWords};
 
 #[cfg(test)]
 mod tests;

@@ -1,18 +1,18 @@
 //! A line of the cache.
 ghost use Rattle.std.specs.Prelude.{◌≡◌, ◌<◌, ◌≤◌, length, slice_index, slice_set};
 ghost use Rattle.arrayvec.specs.ArrayVec.{array_vec_len};
+ghost use Rattle.pmsi_model.specs.declared.limits.TheConstants.{MAX_LINE_WORDS};
 
-use arrayvec::ArrayVec;
-use pmsi_model::Mode;
+use pmsi_model::{LineWords, Mode};
 use std::marker::Model;
 
-/// The words of a line, in a room of 16, the most that a line can have.
+/// The words of a line, in a room for the longest line.
 #[derive(Drop)]
-pub struct LineWords {
-    items: ArrayVec<u32, 16>,
+pub struct CachedWords {
+    items: LineWords,
 }
 
-impl Model for LineWords {
+impl Model for CachedWords {
     ghost use Rattle.std.specs.Prelude.{ℕ, List};
 
     ghost Value = { List ℕ };
@@ -20,25 +20,28 @@ impl Model for LineWords {
     ghost view = { λ a. a.items.items };
 }
 
-impl LineWords {
-    pub fn from_slice(words: &[u32]) -> LineWords
-        requires { length words.now ≤ 16 }
+impl CachedWords {
+    /// The words of a line, of at most the longest. It takes no memory.
+    pub fn from_slice(words: &[u32]) -> CachedWords
+        requires { length words.now ≤ MAX_LINE_WORDS }
         ensures { result ≡ words.now }
     {
-        let mut items = ArrayVec::new();
+        let mut items = LineWords::new();
         let Ok(()) = items.try_extend_from_slice(words) else {
             unreachable!()
         };
-        LineWords { items }
+        CachedWords { items }
     }
 
+    /// The words, by their place in the line.
     pub fn as_slice(&self) -> &[u32]
         ensures value { result.now ≡ self.now }
-        ensures fits { length result.now ≤ 16 }
+        ensures fits { length result.now ≤ MAX_LINE_WORDS }
     {
         self.items.as_slice()
     }
 
+    /// The word at a place, from 0, counted in words.
     pub fn get(&self, place: usize) -> u32
         requires { place < length self.now }
         ensures { result ≡ slice_index self.now place }
@@ -46,6 +49,7 @@ impl LineWords {
         self.items[place]
     }
 
+    /// Replaces the word at a place, from 0, counted in words.
     pub fn set(&mut self, place: usize, word: u32)
         requires { place < length self.old }
         ensures { self.new ≡ slice_set self.old place word }
@@ -59,7 +63,7 @@ impl LineWords {
 pub struct CachedLine {
     pub line: u32,
     pub mode: Mode,
-    pub words: LineWords,
+    pub words: CachedWords,
 }
 
 impl CachedLine {
@@ -70,7 +74,7 @@ impl CachedLine {
         CachedLine {
             line: self.line,
             mode: self.mode,
-            words: LineWords::from_slice(self.words.as_slice()),
+            words: CachedWords::from_slice(self.words.as_slice()),
         }
     }
 }

@@ -6,19 +6,20 @@ use Rattle.pmsi_model.specs.declared.Mode.{Mode}
 use Rattle.pmsi_model.specs.declared.Mode.TheVariants.{Shared, Modified}
 use Rattle.pmsi_model.specs.Geometry.{line_of}
 use Rattle.pmsi_model.specs.Job.{JobValue, IsJob, text_of}
-use Rattle.pmsi_model.specs.Machine.{Machine, CoreState, mode_of, mode_in, is_modified, owns, owner_of}
+use Rattle.pmsi_model.specs.Machine.{Machine, CoreState, mode_of, mode_in, is_modified, owner_of}
 use Rattle.pmsi_model.specs.Phase.{Context, instructions, instruction_touches, context_of, phase, phase_touches, phases}
 use Rattle.pmsi_model.specs.Run.{after_phases, machine_at}
 use Rattle.pmsi_model.specs.Coherent.{HoldsEachOnce}
 use Rattle.pmsi_model.proofs.Cases.{own_core, other_core}
-use Rattle.pmsi_model.proofs.Owners.{nobody_below, owner_below, owner_mode, owner_none}
+use Rattle.pmsi_model.proofs.Owners.{nobody_below, owner_none, owner_same}
 use Rattle.coherence_laws.specs.Apart.{line_bytes_in, IsApart, PhasesAreApart}
 use Rattle.coherence_laws.proofs.Whole.{OwnedAlone}
-use Rattle.coherence_laws.proofs.Slots.{phases_coherent, stays_coherent}
+use Rattle.coherence_laws.proofs.Slots.{stays_coherent}
 use Rattle.coherence_laws.proofs.ApartBytes.{line_bytes-same}
-use Rattle.coherence_laws.proofs.ApartEffects.{whole_words}
-use Rattle.coherence_laws.proofs.ApartPhases.{touches_alike, SameHeld, IsFramed, instructions_framed, IsSeenAlike, instructions_alike}
-use Rattle.coherence_laws.proofs.ApartMemory.{phases_memory, machine_memory}
+use Rattle.pmsi_model.proofs.Effects.{whole_words}
+use Rattle.coherence_laws.proofs.ApartPhases.{touches_alike, IsFramed, instructions_framed, IsSeenAlike, instructions_alike}
+use Rattle.coherence_laws.proofs.ApartMemory.{machine_memory}
+use Rattle.coherence_laws.proofs.Touches.{touches_apart}
 
 -- ---- the phase of one core
 
@@ -54,33 +55,8 @@ sound_at job is slot = record {
   alone = (stays_coherent job is slot).owned_alone;
 }
 
--- also between the phases of a slot
-pub sound_between : (job : JobValue) → IsJob job → (slot count : ℕ) → count ≤ job.shape.cores → IsSound job (phases job count (machine_at job slot))
-sound_between job is slot count within = record {
-  words = whole_words job.shape.memory job.shape.line_words is.shape.memory;
-  extent = (phases_memory job count (machine_at job slot) (machine_memory job is slot)).size;
-  once = (phases_coherent job is slot count within).held_once;
-  alone = (phases_coherent job is slot count within).owned_alone;
-}
-
 pub phase_framed : (job : JobValue) (c : ℕ) (x : Machine) → IsSound job x → IsFramed job.shape (context_of x c) (phase_context job c x)
 phase_framed job c x s = instructions_framed job.shape x.slot (text_of job c) job.shape.quantum (context_of x c) s.words s.extent (s.once c)
-
--- a line is held as before or not at all
-pub phase_less : (job : JobValue) (c : ℕ) (x : Machine) → IsSound job x → (line : ℕ) → (mode_in (phase job c x) c line ≡ mode_in x c line) ⊎ (mode_in (phase job c x) c line ≡ None)
-phase_less job c x s line = subst (λ (k : CoreState). (mode_of line k.held ≡ mode_in x c line) ⊎ (mode_of line k.held ≡ None)) (sym (phase-own job c x)) ((phase_framed job c x s).less line)
-
--- an owned line stays owned
-pub phase_owned : (job : JobValue) (c : ℕ) (x : Machine) → IsSound job x → (line : ℕ) → mode_in x c line ≡ Some Modified → mode_in (phase job c x) c line ≡ Some Modified
-phase_owned job c x s line owned = ap (λ (k : CoreState). mode_of line k.held) (phase-own job c x) ∙ (phase_framed job c x s).owned line owned
-
--- the bytes of a line that the core doesn't own stay
-pub phase_unowned : (job : JobValue) (c : ℕ) (x : Machine) → IsSound job x → (line : ℕ) → mode_in x c line ≢ Some Modified
-    → line_bytes_in job.shape line (phase job c x).memory ≡ line_bytes_in job.shape line x.memory
-unfolding phase
-phase_unowned job c x s line other = let f : IsFramed job.shape (context_of x c) (phase_context job c x) = phase_framed job c x s in
-    line_bytes-same job.shape line (phase_context job c x).memory x.memory f.size
-    (λ at on. f.others at (λ owned. other (subst (λ (l : ℕ). mode_in x c l ≡ Some Modified) on owned)))
 
 -- a phase depends on its core, and on the bytes of the lines that the core holds
 contexts_alike : (job : JobValue) (c : ℕ) (x y : Machine) → IsSound job x → y.slot ≡ x.slot → IsSeenAlike job.shape (context_of x c) (context_of y c)
@@ -88,15 +64,6 @@ contexts_alike : (job : JobValue) (c : ℕ) (x y : Machine) → IsSound job x �
 contexts_alike job c x y s now seen =
     subst (λ (slot : ℕ). IsSeenAlike job.shape (phase_context job c x) (instructions job.shape slot (text_of job c) job.shape.quantum (context_of y c))) (sym now)
     (instructions_alike job.shape x.slot (text_of job c) job.shape.quantum (context_of x c) (context_of y c) s.words (s.once c) s.extent seen)
-
-pub phase_alike : (job : JobValue) (c : ℕ) (x y : Machine) → IsSound job x → y.slot ≡ x.slot → IsSeenAlike job.shape (context_of x c) (context_of y c)
-    → IsSeenAlike job.shape (context_of (phase job c x) c) (context_of (phase job c y) c)
-unfolding phase
-phase_alike job c x y s now seen = let a : IsSeenAlike job.shape (phase_context job c x) (phase_context job c y) = contexts_alike job c x y s now seen in record {
-  core = phase-own job c x ∙ a.core ∙ sym (phase-own job c y);
-  size = a.size;
-  held = subst (λ (k : CoreState). SameHeld job.shape k (phase_context job c x).memory (phase_context job c y).memory) (sym (phase-own job c x)) a.held;
-}
 
 pub phase_touches_alike : (job : JobValue) (c : ℕ) (x y : Machine) → IsSound job x → y.slot ≡ x.slot → IsSeenAlike job.shape (context_of x c) (context_of y c)
     → phase_touches job c x ≡ phase_touches job c y
@@ -189,11 +156,6 @@ same_modified m None less owned = grind arith
 same_modified m (Some Shared) less owned = grind arith
 same_modified m (Some Modified) less owned = ap is_modified (owned refl)
 
-same_owner : (x y : Machine) (count line : ℕ) → ((d : ℕ) → d < count → owns x d line ≡ owns y d line) → owner_of x count line ≡ owner_of y count line
-same_owner x y zero line same = refl
-same_owner x y (suc count) line same = let before : owner_of x count line ≡ owner_of y count line = same_owner x y count line (λ d below. same d (omega arith)) in
-    let last : owns x count line ≡ owns y count line = same count (omega arith) in grind arith
-
 pub phases_are_apart_from : (job : JobValue) (x : Machine) → IsSound job x → IsApart job x
 phases_are_apart_from job x s = let y : Machine = after_phases job x in let a : IsApartTo job x job.shape.cores (after_phases job x) = phases_apart job x s job.shape.cores in record {
   own = λ c below. a.own c below ∙ sym (phase-own job c x);
@@ -201,23 +163,15 @@ phases_are_apart_from job x s = let y : Machine = after_phases job x in let a : 
       (a.extent ∙ sym (ap length (phase-memory job c x) ∙ (phase_framed job c x s).size ∙ s.extent))
       (λ at on. a.held c at below (λ none. holds (ap (λ (k : CoreState). mode_of line k.held) (phase-own job c x) ∙ subst (λ (l : ℕ). mode_of l (phase_context job c x).core.held ≡ None) on none))
       ∙ ap (λ (m : List ℕ). get_or m at 0) (sym (phase-memory job c x)));
+  touches = touches_apart job x job.shape.cores (phases_touches_apart job x s);
   unowned = λ line nobody. line_bytes-same job.shape line y.memory x.memory (a.extent ∙ sym s.extent)
       (λ at on. a.unowned at (λ d below owned. nobody_below y job.shape.cores line nobody d below
       (ap (λ (k : CoreState). mode_of line k.held) (a.own d below) ∙ (phase_framed job d x s).owned line (subst (λ (l : ℕ). mode_in x d l ≡ Some Modified) on owned))));
-  owner = λ line. same_owner y x job.shape.cores line (λ d below. ap (λ (k : CoreState). is_modified (mode_of line k.held)) (a.own d below)
+  owner = λ line. owner_same y x job.shape.cores line (λ d below. ap (λ (k : CoreState). is_modified (mode_of line k.held)) (a.own d below)
       ∙ same_modified (mode_of line (phase_context job d x).core.held) (mode_of line (x.cores d).held) ((phase_framed job d x s).less line) ((phase_framed job d x s).owned line));
 }
 
--- ---- by owners: after the phases of a slot a line is as its owner's phase alone leaves it, or as before
-
-pub owned_line : (job : JobValue) (x : Machine) → IsApart job x → (c line : ℕ) → owner_of x job.shape.cores line ≡ Some c
-    → line_bytes_in job.shape line (after_phases job x).memory ≡ line_bytes_in job.shape line (phase job c x).memory
-owned_line job x a c line owner = let y : Machine = after_phases job x in
-    let after : owner_of (after_phases job x) job.shape.cores line ≡ Some c = a.owner line ∙ owner in
-    let below : c < job.shape.cores = owner_below y job.shape.cores line c after in
-    let mode : mode_of line ((phase job c x).cores c).held ≡ Some Modified = ap (λ (k : CoreState). mode_of line k.held) (sym (a.own c below)) ∙ owner_mode y job.shape.cores line c after in
-    a.held c line below (λ none. grind arith)
-
+-- after the phases of a slot a line that nobody owns is as before
 pub ownerless_line : (job : JobValue) (x : Machine) → IsApart job x → (line : ℕ) → owner_of x job.shape.cores line ≡ None
     → line_bytes_in job.shape line (after_phases job x).memory ≡ line_bytes_in job.shape line x.memory
 ownerless_line job x a line none = a.unowned line (owner_none (after_phases job x) job.shape.cores line (a.owner line ∙ none))

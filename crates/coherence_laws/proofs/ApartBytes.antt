@@ -1,5 +1,5 @@
 -- The lines of memory, and what an access finds and leaves there.
-use Rattle.std.proofs.Common.{◌≡◌, ◌≢◌, ℕ, ◌+◌, ◌-◌, ◌*◌, ◌/◌, ◌%◌, ◌<◌, ◌≤◌, List, length, drop, get_or, All, refl, sym, ap, ◌∙◌, subst, arith}
+use Rattle.std.proofs.Common.{◌≡◌, ◌≢◌, ℕ, ◌+◌, ◌-◌, ◌*◌, ◌/◌, ◌%◌, ◌<◌, ◌≤◌, List, length, drop, get_or, sym, ap, ◌∙◌, subst, arith}
 use Rattle.std.proofs.lemmas.List.{ext_get_or, length-take, length-drop}
 use Rattle.std.proofs.lemmas.Nat.{div-add-mod', mod_below}
 use Rattle.std.proofs.Math.Nat.{div-div-eq-div-mul, div-eq_of_lt-le}
@@ -7,16 +7,12 @@ use mathlib.Core.Logic.{dite}
 use native.Mathlib.Decide.{dec_le}
 use Rattle.pmsi_model.specs.declared.job.Geometry.{Geometry}
 use Rattle.pmsi_model.specs.declared.Access.{Access}
-use Rattle.pmsi_model.specs.declared.AccessOp.{AccessOp}
-use Rattle.pmsi_model.specs.declared.AccessOp.TheVariants.{Load, Store, Amo}
-use Rattle.pmsi_model.specs.declared.Kind.TheVariants.{Read}
-use Rattle.pmsi_model.specs.declared.instr.LoadOp.TheVariants.{Lb, Lh, Lw, Lbu, Lhu}
-use Rattle.pmsi_model.specs.declared.instr.StoreOp.TheVariants.{Sb, Sh, Sw}
 use Rattle.pmsi_model.specs.Geometry.{line_bytes, line_of}
-use Rattle.pmsi_model.specs.Words.{number_of}
-use Rattle.pmsi_model.specs.Access.{width_of, kind_of, store_width, access_bytes, amo_word}
-use Rattle.pmsi_model.specs.Phase.{bytes_from, with_bytes, met_bytes, memory_after}
-use Rattle.pmsi_model.proofs.Bytes.{length-bytes_from, get_or-bytes_from, bytes_from_below, length-with_bytes, with_bytes_below, get_or-with_bytes_before, get_or-with_bytes_past, get_or-with_bytes_at, length-bytes_of, bytes_of_below, with_bytes_same}
+use Rattle.pmsi_model.specs.Access.{width_of, access_bytes}
+use Rattle.pmsi_model.specs.Phase.{bytes_from, met_bytes, memory_after}
+use Rattle.pmsi_model.proofs.Numbers.{next_multiple}
+use Rattle.pmsi_model.proofs.Accesses.{IsFit, lane_fits, new_size}
+use Rattle.pmsi_model.proofs.Bytes.{get_or-bytes_from, get_or-with_bytes_before, get_or-with_bytes_past, get_or-with_bytes_at}
 use Rattle.coherence_laws.specs.Apart.{line_bytes_in}
 
 -- ---- lines
@@ -25,12 +21,9 @@ use Rattle.coherence_laws.specs.Apart.{line_bytes_in}
 abbrev pub SameLine : Geometry → ℕ → List ℕ → List ℕ → Type 0
 SameLine shape line m n = (at : ℕ) → line_of shape at ≡ line → get_or m at 0 ≡ get_or n at 0
 
-next_line : (line size : ℕ) → (line + 1) * size ≡ line * size + size
-next_line line size = grind arith
-
 -- an address of a line, by its place there
 pub line_of-place : (shape : Geometry) (line place : ℕ) → place < line_bytes shape → line_of shape (line * line_bytes shape + place) ≡ line
-line_of-place shape line place below = div-eq_of_lt-le (line_bytes shape) (omega arith) (let m = next_line line (line_bytes shape) in omega arith)
+line_of-place shape line place below = div-eq_of_lt-le (line_bytes shape) (omega arith) (let m = next_multiple line (line_bytes shape) in omega arith)
 
 length-bytes_from_same : (address width : ℕ) (m n : List ℕ) → length m ≡ length n → length (bytes_from address width m) ≡ length (bytes_from address width n)
 length-bytes_from_same address width m n same = length-take width (drop address m)
@@ -65,61 +58,12 @@ same_line-bytes shape line m n some same at on =
 pub same_word_line : (shape : Geometry) (a b : ℕ) → a / 4 ≡ b / 4 → line_of shape a ≡ line_of shape b
 same_word_line shape a b same = sym (div-div-eq-div-mul a 4 shape.line_words) ∙ ap (λ (n : ℕ). n / shape.line_words) same ∙ div-div-eq-div-mul b 4 shape.line_words
 
--- ---- an access that is aligned, and within a memory of this size
+-- ---- an access
 
-pub record IsFit (size : ℕ) (access : Access) : Type 0 where
-  pub aligned : access.address % width_of access.op ≡ 0
-  pub within : access.address + width_of access.op ≤ size
-
--- it lies within an aligned word
-pub lane_fits : (op : AccessOp) (a : ℕ) → a % width_of op ≡ 0 → a % 4 + width_of op ≤ 4
-lane_fits (Load Lb) a h = omega arith
-lane_fits (Load Lbu) a h = omega arith
-lane_fits (Load Lh) a h = omega arith
-lane_fits (Load Lhu) a h = omega arith
-lane_fits (Load Lw) a h = omega arith
-lane_fits (Store Sb) a h = omega arith
-lane_fits (Store Sh) a h = omega arith
-lane_fits (Store Sw) a h = omega arith
-lane_fits (Amo op) a h = omega arith
-
--- and so on one line
+-- it lies on one line
 pub covered_line : (shape : Geometry) (access : Access) (at : ℕ) → access.address % width_of access.op ≡ 0 → access.address ≤ at → at < access.address + width_of access.op
     → line_of shape at ≡ line_of shape access.address
 covered_line shape access at aligned low high = same_word_line shape at access.address (omega (arith, lane_fits access.op access.address aligned))
-
--- the new bytes are as many as those met, and are bytes
-pub access_size : (op : AccessOp) (operand : ℕ) (bytes : List ℕ) → length bytes ≡ width_of op → length (access_bytes op operand bytes) ≡ width_of op
-access_size (Load op) operand bytes size = size
-access_size (Store op) operand bytes size = length-bytes_of (store_width op) operand
-access_size (Amo op) operand bytes size = length-bytes_of 4 (amo_word op (number_of bytes) operand)
-
-pub access_below : (op : AccessOp) (operand : ℕ) (bytes : List ℕ) → All (λ byte. byte < 256) bytes → All (λ byte. byte < 256) (access_bytes op operand bytes)
-access_below (Load op) operand bytes small = small
-access_below (Store op) operand bytes small = bytes_of_below (store_width op) operand
-access_below (Amo op) operand bytes small = bytes_of_below 4 (amo_word op (number_of bytes) operand)
-
--- a read leaves what it met
-read_keeps : (op : AccessOp) (operand : ℕ) (bytes : List ℕ) → kind_of op ≡ Read → access_bytes op operand bytes ≡ bytes
-read_keeps (Load op) operand bytes h = refl
-read_keeps (Store op) operand bytes h = absurd (cc)
-read_keeps (Amo op) operand bytes h = absurd (cc)
-
--- memory keeps its size, and its bytes are bytes
-pub length-memory_after : (access : Access) (memory : List ℕ) → length (memory_after access memory) ≡ length memory
-length-memory_after access memory = length-with_bytes access.address (access_bytes access.op access.operand (met_bytes access memory)) memory
-
-pub memory_after_below : (access : Access) (memory : List ℕ) → All (λ byte. byte < 256) memory → All (λ byte. byte < 256) (memory_after access memory)
-memory_after_below access memory small = with_bytes_below access.address (access_bytes access.op access.operand (met_bytes access memory)) memory
-    (access_below access.op access.operand (met_bytes access memory) (bytes_from_below access.address (width_of access.op) memory small)) small
-
-pub new_size : (access : Access) (memory : List ℕ) → IsFit (length memory) access → length (access_bytes access.op access.operand (met_bytes access memory)) ≡ width_of access.op
-new_size access memory fit = access_size access.op access.operand (met_bytes access memory) (length-bytes_from access.address (width_of access.op) memory fit.within)
-
--- a read changes no byte
-pub read_after : (access : Access) (memory : List ℕ) → IsFit (length memory) access → kind_of access.op ≡ Read → memory_after access memory ≡ memory
-read_after access memory fit reads = ap (λ (bytes : List ℕ). with_bytes access.address bytes memory) (read_keeps access.op access.operand (met_bytes access memory) reads)
-    ∙ with_bytes_same access.address (width_of access.op) memory fit.within
 
 -- a byte past the access stays
 uncovered_after : (access : Access) (memory : List ℕ) (at : ℕ) → IsFit (length memory) access → (access.address ≤ at → at < access.address + width_of access.op → ⊥)

@@ -6,15 +6,14 @@ use Rattle.pmsi_model.specs.declared.Action.{Action}
 use Rattle.pmsi_model.specs.declared.Action.TheVariants.{Idle, Post, Fill, PostFill, Back}
 use Rattle.pmsi_model.specs.declared.Want.{Want}
 use Rattle.pmsi_model.specs.Job.{JobValue, IsJob, text_of}
-use Rattle.pmsi_model.specs.Slots.{plan_of, owner_of_slot}
 use Rattle.pmsi_model.specs.Effect.{Effect, Next, Memory, Stop}
 use Rattle.pmsi_model.specs.Machine.{Machine}
 use Rattle.pmsi_model.specs.Phase.{Context, can_run, after_effect, effect_at, accessed, missed, is_permitted, memory_after, instruction, instructions, context_of, phase, phases}
 use Rattle.pmsi_model.specs.Bus.{post, fill, fill_for, write_back, kind_of_name, action_of, after_action}
-use Rattle.pmsi_model.specs.Run.{start_of, after_phases, slot_done, machine_at}
+use Rattle.pmsi_model.specs.Run.{start_of, after_phases, slot_done, machine_at, slot_owner}
 use Rattle.pmsi_model.proofs.Cases.{by_test}
 use Rattle.coherence_laws.specs.Apart.{IsMemoryOf, StaysMemory}
-use Rattle.coherence_laws.proofs.ApartBytes.{length-memory_after, memory_after_below}
+use Rattle.pmsi_model.proofs.Accesses.{length-memory_after, memory_after_below}
 
 -- ---- the phases
 
@@ -69,7 +68,7 @@ action_memory job x c (Back line kept) h = h
 
 slot_memory : (job : JobValue) (x : Machine) → IsMemoryOf job x.memory → IsMemoryOf job (slot_done job x).memory
 unfolding slot_done
-slot_memory job x h = let y : Machine = after_phases job x in let c : ℕ = owner_of_slot (plan_of job) x.slot in
+slot_memory job x h = let y : Machine = after_phases job x in let c : ℕ = slot_owner job x in
     action_memory job y c (action_of job y c) (phases_memory job job.shape.cores x h)
 
 pub machine_memory : (job : JobValue) → IsJob job → (slot : ℕ) → IsMemoryOf job (machine_at job slot).memory

@@ -1,5 +1,5 @@
 -- What the instructions of one core change in memory, and on what of memory they depend.
-use Rattle.std.proofs.Common.{◌≡◌, ◌≢◌, ◌⊎◌, ℕ, zero, suc, ◌%◌, ◌<◌, List, [], ◌∷◌, ◌++◌, length, get_or, Option, Some, None, Bool, true, false, if◌then◌else◌, refl, sym, ap, ◌∙◌, subst, inl, arith}
+use Rattle.std.proofs.Common.{◌≡◌, ◌≢◌, ℕ, zero, suc, ◌%◌, List, [], ◌∷◌, ◌++◌, length, get_or, Option, Some, None, Bool, true, false, if◌then◌else◌, refl, sym, ap, ◌∙◌, subst, inl, arith}
 use Rattle.pmsi_model.specs.declared.job.Geometry.{Geometry}
 use Rattle.pmsi_model.specs.declared.Access.{Access}
 use Rattle.pmsi_model.specs.declared.Kind.{Kind}
@@ -14,12 +14,12 @@ use Rattle.pmsi_model.specs.Effect.{Effect, Next, Memory, Stop}
 use Rattle.pmsi_model.specs.Machine.{CoreState, mode_of}
 use Rattle.pmsi_model.specs.Phase.{Context, can_run, after_effect, effect_at, accessed, missed, permits, is_permitted, evicted, drop_shared, touched_line, retired_with, memory_after, instruction, instructions, access_if_permitted, access_at, touch_list, instruction_touches}
 use Rattle.pmsi_model.specs.Coherent.{HoldsEachOnce}
-use Rattle.pmsi_model.proofs.Held.{mode_without, mode_to_front, once_without, once_to_front, evicted_held}
+use Rattle.pmsi_model.proofs.Held.{mode_without, touched_mode, touched_once, dropped_less, dropped_once, evicted_held}
+use Rattle.pmsi_model.proofs.Accesses.{IsFit, length-memory_after, read_after, granted_held}
+use Rattle.pmsi_model.proofs.Effects.{EffectFits, effect_fits}
 use Rattle.pmsi_model.proofs.Cases.{by_test}
-use Rattle.coherence_laws.specs.Apart.{line_bytes_in}
 use Rattle.coherence_laws.proofs.Whole.{IsLess}
-use Rattle.coherence_laws.proofs.ApartBytes.{SameLine, line_bytes-same, same_line-bytes, IsFit, length-memory_after, read_after, other_line_after, met_same, after_same}
-use Rattle.coherence_laws.proofs.ApartEffects.{EffectFits, effect_fits}
+use Rattle.coherence_laws.proofs.ApartBytes.{SameLine, other_line_after, met_same, after_same}
 
 -- ---- what the instructions of a core change: of memory only bytes of lines that it owns. It goes on owning these, and
 -- owns no others; a line that it holds is held as before or not at all
@@ -43,14 +43,6 @@ framed_next shape x y z f g = record {
   once = g.once;
 }
 
-touched_mode : (line l : ℕ) (mode : Option Mode) (held : List (ℕ × Mode)) → mode_of line held ≡ mode → mode_of l (touched_line mode line held) ≡ mode_of l held
-touched_mode line l None held is = refl
-touched_mode line l (Some mode) held is = grind (arith, mode_to_front l line mode held)
-
-touched_once : (line : ℕ) (mode : Option Mode) (held : List (ℕ × Mode)) → HoldsEachOnce held → HoldsEachOnce (touched_line mode line held)
-touched_once line None held once = once
-touched_once line (Some mode) held once = once_to_front line mode held once
-
 -- an access with permission
 access_others : (shape : Geometry) (access : Access) (kind : Kind) (memory : List ℕ) (held : List (ℕ × Mode)) (at : ℕ) → kind_of access.op ≡ kind → IsFit (length memory) access
     → permits kind (mode_of (line_of shape access.address) held) ≡ true → mode_of (line_of shape at) held ≢ Some Modified
@@ -70,11 +62,6 @@ accessed_framed shape access x once fit granted = let line : ℕ = line_of shape
 }
 
 -- a miss
-dropped_less : (l : ℕ) (gone : Option (ℕ × Mode)) (held : List (ℕ × Mode)) → (mode_of l (drop_shared gone held) ≡ mode_of l held) ⊎ (mode_of l (drop_shared gone held) ≡ None)
-dropped_less l None held = inl refl
-dropped_less l (Some (gone, Shared)) held = grind (arith, mode_without l gone held)
-dropped_less l (Some (gone, Modified)) held = inl refl
-
 dropped_owned : (l : ℕ) (gone : Option (ℕ × Mode)) (held : List (ℕ × Mode)) → ((h : ℕ × Mode) → gone ≡ Some h → mode_of h.0 held ≡ Some h.1)
     → mode_of l held ≡ Some Modified → mode_of l (drop_shared gone held) ≡ Some Modified
 dropped_owned l None held there owned = owned
@@ -82,11 +69,6 @@ dropped_owned l (Some (gone, Shared)) held there owned = let here : mode_of gone
     let other : l ≢ gone = (λ same. let both : mode_of gone held ≡ Some Modified = subst (λ (n : ℕ). mode_of n held ≡ Some Modified) same owned in grind arith) in
     grind (arith, mode_without l gone held)
 dropped_owned l (Some (gone, Modified)) held there owned = owned
-
-dropped_once : (gone : Option (ℕ × Mode)) (held : List (ℕ × Mode)) → HoldsEachOnce held → HoldsEachOnce (drop_shared gone held)
-dropped_once None held once = once
-dropped_once (Some (gone, Shared)) held once = once_without gone held once
-dropped_once (Some (gone, Modified)) held once = once
 
 missed_framed : (shape : Geometry) (slot : ℕ) (access : Access) (x : Context) → HoldsEachOnce x.core.held → IsFramed shape x (record x { core = missed shape slot access x.core })
 missed_framed shape slot access x once = let line : ℕ = line_of shape access.address in let held : List (ℕ × Mode) = x.core.held in record {
@@ -132,15 +114,6 @@ instructions_framed shape slot text (suc count) x whole size once =
 abbrev pub SameHeld : Geometry → CoreState → List ℕ → List ℕ → Type 0
 SameHeld shape k m n = (line : ℕ) → mode_of line k.held ≢ None → SameLine shape line m n
 
--- the same by the bytes of each line
-pub same_held-bytes : (shape : Geometry) (k : CoreState) (m n : List ℕ) → 0 < shape.line_words → ((line : ℕ) → mode_of line k.held ≢ None → line_bytes_in shape line m ≡ line_bytes_in shape line n)
-    → SameHeld shape k m n
-same_held-bytes shape k m n some same line holds = same_line-bytes shape line m n some (same line holds)
-
-pub bytes-same_held : (shape : Geometry) (k : CoreState) (m n : List ℕ) → length m ≡ length n → SameHeld shape k m n → (line : ℕ) → mode_of line k.held ≢ None
-    → line_bytes_in shape line m ≡ line_bytes_in shape line n
-bytes-same_held shape k m n size same line holds = line_bytes-same shape line m n size (same line holds)
-
 pub record IsSeenAlike (shape : Geometry) (x y : Context) : Type 0 where
   pub core : x.core ≡ y.core
   pub size : length x.memory ≡ length y.memory
@@ -150,13 +123,9 @@ abbrev pub context : CoreState → List ℕ → Context
 context k memory = record { core = k; memory = memory }
 
 -- two choices by one test
-by_both : {A : Type 0} (P : A → A → Type 0) (b : Bool) (t e t' e' : A) → (b ≡ true → P t t') → (b ≡ false → P e e') → P (if b then t else e) (if b then t' else e')
-by_both P true t e t' e' on_true on_false = on_true refl
-by_both P false t e t' e' on_true on_false = on_false refl
-
-granted_held : (kind : Kind) (mode : Option Mode) → permits kind mode ≡ true → mode ≢ None
-granted_held Read mode granted none = grind arith
-granted_held Write mode granted none = grind arith
+by_test_both : {A : Type 0} (P : A → A → Type 0) (b : Bool) (t e t' e' : A) → (b ≡ true → P t t') → (b ≡ false → P e e') → P (if b then t else e) (if b then t' else e')
+by_test_both P true t e t' e' on_true on_false = on_true refl
+by_test_both P false t e t' e' on_true on_false = on_false refl
 
 held_before : (k j : CoreState) (line : ℕ) → IsLess k j → mode_of line j.held ≢ None → mode_of line k.held ≢ None
 held_before k j line less held none = grind (arith, less line)
@@ -179,7 +148,7 @@ effect_alike : (shape : Geometry) (slot : ℕ) (effect : Effect) (k : CoreState)
 effect_alike shape slot (Next regs pc) k m n once size fit same = record { core = refl; size = size; held = same }
 effect_alike shape slot (Stop halt) k m n once size fit same = record { core = refl; size = size; held = same }
 effect_alike shape slot (Memory access) k m n once size fit same =
-    by_both (IsSeenAlike shape) (is_permitted shape access k) (accessed shape access (context k m)) (context (missed shape slot access k) m) (accessed shape access (context k n)) (context (missed shape slot access k) n)
+    by_test_both (IsSeenAlike shape) (is_permitted shape access k) (accessed shape access (context k m)) (context (missed shape slot access k) m) (accessed shape access (context k n)) (context (missed shape slot access k) n)
     (λ granted. accessed_alike shape access k m n once size fit granted same)
     (λ denied. record {
       core = refl;
@@ -191,7 +160,7 @@ pub instruction_alike : (shape : Geometry) (slot : ℕ) (text : List ℕ) (k : C
     → SameHeld shape k m n → IsSeenAlike shape (instruction shape slot text (context k m)) (instruction shape slot text (context k n))
 unfolding instruction
 instruction_alike shape slot text k m n whole once extent size same =
-    by_both (IsSeenAlike shape) (can_run k) (after_effect shape slot (effect_at shape text k) (context k m)) (context k m) (after_effect shape slot (effect_at shape text k) (context k n)) (context k n)
+    by_test_both (IsSeenAlike shape) (can_run k) (after_effect shape slot (effect_at shape text k) (context k m)) (context k m) (after_effect shape slot (effect_at shape text k) (context k n)) (context k n)
     (λ can. effect_alike shape slot (effect_at shape text k) k m n once size (fits_in shape text k m whole extent) same)
     (λ stays. record { core = refl; size = size; held = same })
 

@@ -8,17 +8,16 @@ use Rattle.pmsi_model.specs.declared.Kind.{Kind}
 use Rattle.pmsi_model.specs.declared.Want.{Want}
 use Rattle.pmsi_model.specs.Geometry.{line_of}
 use Rattle.pmsi_model.specs.Job.{JobValue, IsJob, text_of}
-use Rattle.pmsi_model.specs.Slots.{plan_of, owner_of_slot}
 use Rattle.pmsi_model.specs.Access.{kind_of}
 use Rattle.pmsi_model.specs.Effect.{Effect, Next, Memory, Stop}
 use Rattle.pmsi_model.specs.Machine.{Machine, CoreState}
 use Rattle.pmsi_model.specs.Phase.{Context, can_run, after_effect, effect_at, accessed, missed, is_permitted, instruction, instructions, context_of, phase, phases}
 use Rattle.pmsi_model.specs.Bus.{is_core, post_at, noted_post, kind_of_name, post, fill, fill_for, clear_victim, write_back, action_of, after_action}
-use Rattle.pmsi_model.specs.Run.{start_of, after_phases, slot_done, machine_at}
+use Rattle.pmsi_model.specs.Run.{start_of, after_phases, slot_done, machine_at, slot_owner}
 use Rattle.pmsi_model.proofs.Cases.{by_test, at_core}
 use Rattle.pmsi_model.proofs.Changes.{posted_core, filled_core, written_core, noted-want}
-use Rattle.coherence_laws.proofs.ApartBytes.{IsFit}
-use Rattle.coherence_laws.proofs.ApartEffects.{EffectFits, effect_fits, whole_words}
+use Rattle.pmsi_model.proofs.Accesses.{IsFit}
+use Rattle.pmsi_model.proofs.Effects.{EffectFits, effect_fits, whole_words}
 
 pub record IsAsked (shape : Geometry) (want : Want) : Type 0 where
   pub fit : IsFit shape.memory want.access
@@ -106,7 +105,7 @@ action_asked shape x c (Back line kept) asked = back_asked shape x c line kept a
 
 slot_asked : (job : JobValue) (x : Machine) → job.shape.memory % 4 ≡ 0 → AllAsked job.shape x.cores → AllAsked job.shape (slot_done job x).cores
 unfolding slot_done
-slot_asked job x whole asked = let y : Machine = after_phases job x in let c : ℕ = owner_of_slot (plan_of job) x.slot in
+slot_asked job x whole asked = let y : Machine = after_phases job x in let c : ℕ = slot_owner job x in
     action_asked job.shape y c (action_of job y c) (phases_asked job job.shape.cores x whole asked)
 
 machine_asked : (job : JobValue) → IsJob job → (slot : ℕ) → AllAsked job.shape (machine_at job slot).cores
@@ -118,9 +117,6 @@ machine_asked job is (suc slot) = slot_asked job (machine_at job slot) (whole_wo
 
 asked_of : (shape : Geometry) (o : Option Want) (want : Want) → o ≡ Some want → IfAsked shape o → IsAsked shape want
 asked_of shape o want is asked = let P : Option Want → Type 0 = λ w. IfAsked shape w in let some : IfAsked shape (Some want) = subst P is asked in some
-
-pub want_asked : (job : JobValue) → IsJob job → (slot c : ℕ) (want : Want) → ((machine_at job slot).cores c).want ≡ Some want → IsAsked job.shape want
-want_asked job is slot c want wants = asked_of job.shape ((machine_at job slot).cores c).want want wants (machine_asked job is slot c)
 
 pub want_asked_between : (job : JobValue) → IsJob job → (slot count c : ℕ) (want : Want) → ((phases job count (machine_at job slot)).cores c).want ≡ Some want → IsAsked job.shape want
 want_asked_between job is slot count c want wants = asked_of job.shape ((phases job count (machine_at job slot)).cores c).want want wants

@@ -1,8 +1,7 @@
 -- How many lines a core has to write back.
-use Rattle.std.proofs.Common.{◌≡◌, ◌≢◌, ℕ, ◌+◌, ◌<◌, ◌≤◌, List, [], ◌∷◌, length, Option, Some, None, true, false, not, ◌==◌, ◌&&◌, refl, ap, ◌∙◌, arith}
+use Rattle.std.proofs.Common.{◌≡◌, ◌≢◌, ℕ, ◌+◌, ◌<◌, ◌≤◌, List, [], ◌∷◌, length, Option, Some, None, true, false, refl, ap, ◌∙◌, arith}
 use mathlib.Core.Logic.{dite}
 use native.Mathlib.Decide.{dec_le}
-use Rattle.std.specs.List.{filter}
 use Rattle.pmsi_model.specs.declared.job.Geometry.{Geometry}
 use Rattle.pmsi_model.specs.declared.Want.{Want}
 use Rattle.pmsi_model.specs.Machine.{Request, CoreState, mode_of, has_line, has_request, request_of}
@@ -10,22 +9,12 @@ use Rattle.pmsi_model.specs.Run.{machine_at}
 use Rattle.pmsi_model.specs.Coherent.{ListsEachOnce, posted_request, victim_in}
 use Rattle.coherence_laws.specs.Laws.{WriteBacksFit}
 use Rattle.pmsi_model.proofs.Requests.{requests_within, requests_below}
+use Rattle.pmsi_model.proofs.WriteBacks.{without_line, line_less, lines_once_less}
 use Rattle.coherence_laws.proofs.Fine.{FineCore}
 use Rattle.coherence_laws.proofs.Whole.{IsWhole}
 use Rattle.coherence_laws.proofs.Slots.{whole_at}
 
 -- ---- lines, each with a request
-
-abbrev without_line : ℕ → List ℕ → List ℕ
-without_line line lines = filter (λ l. not (l == line)) lines
-
-line_less : (l line : ℕ) (lines : List ℕ) → has_line l (without_line line lines) ≡ (has_line l lines && not (l == line))
-line_less l line [] = refl
-line_less l line (x ∷ lines) = grind (arith, line_less l line lines)
-
-lines_once_less : (line : ℕ) (lines : List ℕ) → ListsEachOnce lines → ListsEachOnce (without_line line lines)
-lines_once_less line [] once = once
-lines_once_less line (x ∷ lines) once = grind (arith, line_less x line lines, lines_once_less line lines once.1)
 
 line_absent : (line : ℕ) (lines : List ℕ) → has_line line lines ≡ false → without_line line lines ≡ lines
 line_absent line [] absent = refl

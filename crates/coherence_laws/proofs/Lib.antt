@@ -8,9 +8,10 @@ pub mod Phases
 pub mod Slots
 pub mod Counts
 pub mod ApartBytes
-pub mod ApartEffects
 pub mod ApartPhases
 pub mod ApartMemory
+pub mod Touches
 pub mod Apart
 pub mod ApartLines
 pub mod ApartWants
+pub mod Exports

@@ -1,17 +1,15 @@
 -- The phases of the cores keep the facts of all cores.
-use Rattle.std.proofs.Common.{◌≡◌, ◌⊎◌, ℕ, zero, suc, ◌+◌, ◌<◌, ◌≤◌, List, Option, Some, None, true, false, refl, sym, subst, inl, arith}
+use Rattle.std.proofs.Common.{◌≡◌, ℕ, zero, suc, ◌+◌, ◌<◌, ◌≤◌, List, None, true, false, refl, sym, subst, inl, arith}
 use Rattle.pmsi_model.specs.declared.job.Geometry.{Geometry}
 use Rattle.pmsi_model.specs.declared.Access.{Access}
-use Rattle.pmsi_model.specs.declared.Mode.{Mode}
-use Rattle.pmsi_model.specs.declared.Mode.TheVariants.{Shared, Modified}
 use Rattle.pmsi_model.specs.declared.Status.TheVariants.{Running, Halted}
 use Rattle.pmsi_model.specs.Geometry.{line_of}
 use Rattle.pmsi_model.specs.Job.{JobValue, text_of}
 use Rattle.pmsi_model.specs.Access.{kind_of}
 use Rattle.pmsi_model.specs.Effect.{Effect, Next, Memory, Stop}
 use Rattle.pmsi_model.specs.Machine.{Machine, Request, CoreState, mode_of}
-use Rattle.pmsi_model.specs.Phase.{Context, can_run, after_effect, effect_at, accessed, missed, is_permitted, evicted, drop_shared, touched_line, instruction, instructions, context_of, phase, phases}
-use Rattle.pmsi_model.proofs.Held.{mode_without, mode_to_front}
+use Rattle.pmsi_model.specs.Phase.{Context, can_run, after_effect, effect_at, accessed, missed, is_permitted, evicted, touched_line, instruction, instructions, context_of, phase, phases}
+use Rattle.pmsi_model.proofs.Held.{touched_mode, dropped_less}
 use Rattle.pmsi_model.proofs.Boundaries.{phases-slot}
 use Rattle.pmsi_model.proofs.Cases.{by_test}
 use Rattle.coherence_laws.proofs.Fine.{IsFine, FineCore, fine_status, fine_touched, fine_missed}
@@ -25,24 +23,13 @@ pub record IsKept (shape : Geometry) (slot : ℕ) (posted : List Request) (c : �
 runs_of : (k : CoreState) → can_run k ≡ true → (k.status ≡ Running) × (k.want ≡ None)
 runs_of k can = (grind arith, grind arith)
 
-touched_less : (line l : ℕ) (mode : Option Mode) (held : List (ℕ × Mode)) → mode_of line held ≡ mode
-    → mode_of l (touched_line mode line held) ≡ mode_of l held
-touched_less line l None held is = refl
-touched_less line l (Some mode) held is = grind (arith, mode_to_front l line mode held)
-
-dropped_less : (l : ℕ) (gone : Option (ℕ × Mode)) (held : List (ℕ × Mode))
-    → (mode_of l (drop_shared gone held) ≡ mode_of l held) ⊎ (mode_of l (drop_shared gone held) ≡ None)
-dropped_less l None held = inl refl
-dropped_less l (Some (gone, Shared)) held = grind (arith, mode_without l gone held)
-dropped_less l (Some (gone, Modified)) held = inl refl
-
 accessed_kept : (shape : Geometry) (slot : ℕ) (posted : List Request) (c : ℕ) (access : Access) (x : Context)
     → FineCore shape (slot + 1) posted c x.core → can_run x.core ≡ true
     → IsKept shape (slot + 1) posted c x.core (accessed shape access x).core
 accessed_kept shape slot posted c access x f can = let line : ℕ = line_of shape access.address in let k : CoreState = x.core in let r = runs_of k can in record {
   fine = subst (λ w. IsFine shape (slot + 1) posted c (touched_line (mode_of line k.held) line k.held) w k.write_backs k.status) (sym r.1)
       (fine_touched shape (slot + 1) posted c k.held k.write_backs k.status line (mode_of line k.held) (subst (λ w. IsFine shape (slot + 1) posted c k.held w k.write_backs k.status) r.1 f) refl);
-  less = λ l. inl (touched_less line l (mode_of line k.held) k.held refl);
+  less = λ l. inl (touched_mode line l (mode_of line k.held) k.held refl);
 }
 
 missed_kept : (shape : Geometry) (slot : ℕ) (posted : List Request) (c : ℕ) (access : Access) (k : CoreState) → 1 ≤ shape.ways

@@ -13,11 +13,10 @@ use Rattle.pmsi_model.specs.declared.Mode.{Mode}
 use Rattle.pmsi_model.specs.declared.Mode.TheVariants.{Modified}
 use Rattle.pmsi_model.specs.declared.Want.{Want}
 use Rattle.pmsi_model.specs.Job.{JobValue, IsJob}
-use Rattle.pmsi_model.specs.Slots.{plan_of, owner_of_slot}
 use Rattle.pmsi_model.specs.Machine.{Machine, CoreState, mode_of, mode_in, nobody_owns}
 use Rattle.pmsi_model.specs.Phase.{phases}
 use Rattle.pmsi_model.specs.Bus.{is_served, can_request_for, requests_now, name_of, kind_of_name, post, post_at, fill, post_action, request_action, back_action, action_of, after_action}
-use Rattle.pmsi_model.specs.Run.{start_core, start_of, after_phases, slot_done, machine_at}
+use Rattle.pmsi_model.specs.Run.{start_core, start_of, after_phases, slot_done, machine_at, slot_owner}
 use Rattle.pmsi_model.specs.Coherent.{IsCoherent}
 use Rattle.pmsi_model.proofs.Boundaries.{phases-slot, machine_at-slot}
 use Rattle.pmsi_model.proofs.Changes.{post-own}
@@ -126,7 +125,7 @@ slot_whole : (job : JobValue) (x : Machine) → 1 ≤ job.shape.cores → 1 ≤ 
 unfolding slot_done
 slot_whole job x cores ways w =
     let y : Machine = after_phases job x in
-    let c : ℕ = owner_of_slot (plan_of job) x.slot in
+    let c : ℕ = slot_owner job x in
     let same : y.slot ≡ x.slot = phases-slot job job.shape.cores x in
     let before : IsWhole job.shape (x.slot + 1) y.posted y.cores =
     phases_whole job job.shape.cores x ways (omega arith) (whole_later job.shape x.slot x.posted x.cores w) in

@@ -15,8 +15,9 @@ pub fn write_backs_fit()
     ensures { WriteBacksFit }
 {}
 
-/// A core's phase of a slot comes to the same whatever the other cores did before it in that slot: the core itself, and
-/// the bytes of each line that it holds. Lines change only by their owners, and owners don't change within the phases.
+/// The phases of all cores in core order leave each core as its phase alone does, with the same bytes of each line that it
+/// then holds, and its accesses among theirs are those of its phase alone. The bytes of a line that nobody owns stay, and
+/// so do owners.
 pub fn phases_are_apart()
     ensures { PhasesAreApart }
 {}

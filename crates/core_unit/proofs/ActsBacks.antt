@@ -1,5 +1,5 @@
 -- A core that writes a line back stands for what the write-back leaves.
-use Rattle.std.proofs.Common.{◌≡◌, ◌≢◌, ℕ, ◌==◌, ◌&&◌, List, [], ◌∷◌, drop, Option, Some, None, Bool, true, false, not, if◌then◌else◌, refl, sym, ap, ◌∙◌, subst, arith}
+use Rattle.std.proofs.Common.{◌≡◌, ◌≢◌, ℕ, ◌==◌, ◌&&◌, List, ◌∷◌, drop, Option, Some, None, Bool, true, false, not, if◌then◌else◌, refl, sym, ap, ◌∙◌, subst, arith}
 use mathlib.Core.Logic.{dite}
 use native.Mathlib.Decide.{ℕ_discrete}
 use Rattle.std.specs.Option.{option_map}
@@ -10,12 +10,12 @@ use Rattle.pmsi_model.specs.declared.Want.{Want}
 use Rattle.pmsi_model.specs.Job.{JobValue}
 use Rattle.pmsi_model.specs.Machine.{Machine, CoreState, Request, mode_of, has_line, has_write, with_mode, without}
 use Rattle.pmsi_model.specs.Bus.{clear_victim, has_victim_for, write_back}
-use Rattle.pmsi_model.specs.Coherent.{ListsEachOnce}
 use Rattle.pmsi_model.proofs.Changes.{write_back-memory, write_back-own, write_back-posted, written_core}
 use Rattle.pmsi_model.proofs.Held.{mode_with_mode, mode_without}
+use Rattle.pmsi_model.proofs.WriteBacks.{line_less, lines_once_less}
 use Rattle.cache_array.specs.declared.line.CachedLine.{CachedLine}
 use Rattle.cache_array.specs.Cache.{held_of, others, with_line_mode, words_of}
-use Rattle.cache_array.proofs.Lines.{held_of-others, held_of-with_line_mode, words_of-others, words_of-with_line_mode}
+use Rattle.cache_array.proofs.Exports.{held_of-others, held_of-with_line_mode, words_of-others, words_of-with_line_mode}
 use Rattle.rv_exec.specs.Effects.{IsAccessTo}
 use Rattle.core_unit.specs.declared.state.State.{State}
 use Rattle.core_unit.specs.Lines.{without_line}
@@ -23,9 +23,8 @@ use Rattle.core_unit.specs.State.{backed, core_of, keeps}
 use Rattle.core_unit.specs.Stands.{Carries, CopiesAgree, IsWantOf}
 use Rattle.core_unit.specs.Parts.{AreClaims, KnowsClaims}
 use Rattle.core_unit.proofs.ActsCopies.{copies_fewer}
-use Rattle.core_unit.proofs.Notes.{IsHearing}
-use Rattle.core_unit.proofs.NotesClaims.{line_less}
-use Rattle.core_unit.proofs.Steps.{rebuilt}
+use Rattle.core_unit.proofs.Carried.{relined}
+use Rattle.core_unit.proofs.Snoops.{IsCoreIn}
 
 -- ---- what is left of the lines
 
@@ -58,10 +57,6 @@ cleared_want job line (Some w) old want is = let a = old w refl in record {
 
 -- ---- claims
 
-once_less : (line : ℕ) (lines : List ℕ) → ListsEachOnce lines → ListsEachOnce (without_line line lines)
-once_less line [] once = once
-once_less line (x ∷ lines) once = grind (arith, line_less x line lines, once_less line lines once.1)
-
 claims_backed : (posted : List Request) (line : ℕ) (lines claimed : List ℕ) → has_line line lines ≡ false → AreClaims posted (line ∷ lines) claimed → AreClaims posted lines (without_line line claimed)
 claims_backed posted line lines claimed once knows l = dite (ℕ_discrete l line)
     (λ here. let none : has_line l lines ≡ false = subst (λ (n : ℕ). has_line n lines ≡ false) (sym here) once in grind (arith, line_less l line claimed))
@@ -76,31 +71,31 @@ keeps_by line lines claimed posted o knows = grind (arith, knows line)
 
 -- the first of the lines that a core lists, each once, and holds
 pub record IsWritable (job : JobValue) (y : Machine) (c line : ℕ) (lines : List ℕ) (v : State) : Type 0 where
-  pub hears : IsHearing job c y v
+  pub core_in : IsCoreIn job c y v
   pub first : v.pending.write_backs ≡ line ∷ lines
   pub lists : has_line line lines ≡ false
   pub held : mode_of line (held_of v.cache.lines) ≢ None
 
 module _ (job : JobValue) (y : Machine) (c line : ℕ) (lines : List ℕ) (v : State) (w : IsWritable job y c line lines v) where
   claims_first : AreClaims y.posted (line ∷ lines) v.claimed
-  claims_first = subst (λ (backs : List ℕ). AreClaims y.posted backs v.claimed) w.first w.hears.claims
+  claims_first = subst (λ (backs : List ℕ). AreClaims y.posted backs v.claimed) w.first w.core_in.claims
 
   pub keeps_is : keeps line v ≡ (not (has_write line y.posted) && not (has_victim_for line (y.cores c).want))
   keeps_is = keeps_by line lines v.claimed y.posted v.pending.want claims_first
-      ∙ ap (λ (k : CoreState). not (has_write line y.posted) && not (has_victim_for line k.want)) (sym w.hears.stands.core)
+      ∙ ap (λ (k : CoreState). not (has_write line y.posted) && not (has_victim_for line k.want)) (sym w.core_in.stands.core)
 
   backed_agree : (kept : Bool) → CopiesAgree job y.memory (lines_backed kept line v.cache.lines)
   backed_agree kept = copies_fewer job.shape.line_words y.memory (λ l. mode_of l (held_of v.cache.lines)) (λ l. mode_of l (held_of (lines_backed kept line v.cache.lines)))
       (λ l. words_of l v.cache.lines) (λ l. words_of l (lines_backed kept line v.cache.lines))
-      (λ l. still_held kept line l v.cache.lines w.held) (λ l. same_words kept line l v.cache.lines) w.hears.stands.carries.agree
+      (λ l. still_held kept line l v.cache.lines w.held) (λ l. same_words kept line l v.cache.lines) w.core_in.stands.carries.agree
 
-  pub back_backed : IsHearing job c (write_back y c line (keeps line v)) (backed line lines v)
+  pub back_backed : IsCoreIn job c (write_back y c line (keeps line v)) (backed line lines v)
   back_backed = let kept : Bool = keeps line v in record {
     stands = record {
       carries = subst (λ (memory : List ℕ). Carries job c memory (backed line lines v)) (sym (write_back-memory y c line (keeps line v)))
-          (rebuilt job c y.memory y.memory v (backed line lines v) w.hears.stands.carries refl refl refl refl refl refl w.hears.stands.carries.small (backed_agree (keeps line v))
-          (cleared_want job line v.pending.want w.hears.stands.carries.want));
-      core = write_back-own y c line (keeps line v) ∙ ap (written_core line (keeps line v)) w.hears.stands.core
+          (relined job c y.memory v (backed line lines v) w.core_in.stands.carries refl (backed_agree (keeps line v))
+          (cleared_want job line v.pending.want w.core_in.stands.carries.want));
+      core = write_back-own y c line (keeps line v) ∙ ap (written_core line (keeps line v)) w.core_in.stands.core
           ∙ ap (λ (held : List (ℕ × Mode)). let k : CoreState = record (core_of v) { held = held; want = option_map (clear_victim line) v.pending.want; write_backs = drop 1 v.pending.write_backs; turn = RequestTurn } in k)
           (sym (backed_held (keeps line v) line v.cache.lines))
           ∙ ap (λ (backs : List ℕ). let k : CoreState = record (core_of v) { held = held_of (lines_backed (keeps line v) line v.cache.lines); want = option_map (clear_victim line) v.pending.want; write_backs = drop 1 backs; turn = RequestTurn } in k)
@@ -108,5 +103,5 @@ module _ (job : JobValue) (y : Machine) (c line : ℕ) (lines : List ℕ) (v : S
     };
     claims = subst (λ (posted : List Request). KnowsClaims posted (backed line lines v)) (sym (write_back-posted y c line (keeps line v)))
         (claims_backed y.posted line lines v.claimed w.lists claims_first);
-    once = once_less line v.claimed w.hears.once;
+    once = lines_once_less line v.claimed w.core_in.once;
   }

@@ -11,6 +11,7 @@ use Rattle.pmsi_model.specs.Words.{number_of}
 use Rattle.pmsi_model.specs.Access.{width_of}
 use Rattle.pmsi_model.specs.Parts.{word_at}
 use Rattle.pmsi_model.specs.Phase.{met_bytes, memory_after}
+use Rattle.pmsi_model.proofs.Numbers.{next_multiple}
 use Rattle.cache_array.specs.Cache.{word_place}
 use Rattle.rv_exec.specs.Accesses.{bytes_after, covered}
 use Rattle.core_unit.specs.Copies.{AreCopies}
@@ -23,12 +24,9 @@ pub record AreWords (count : ℕ) (memory : List ℕ) (line : ℕ) (words : List
   pub same : (place : ℕ) → place < count → get_or words place 0 ≡ word_at memory (line * count + place)
   pub within : 4 * ((line + 1) * count) ≤ length memory
 
-next_line : (line count : ℕ) → (line + 1) * count ≡ line * count + count
-next_line line count = grind arith
-
 -- a word of a line is within memory
 pub word_within : (line count place size : ℕ) → place < count → 4 * ((line + 1) * count) ≤ size → 4 * (line * count + place) + 4 ≤ size
-word_within line count place size below within = let m = next_line line count in omega arith
+word_within line count place size below within = let m = next_multiple line count in omega arith
 
 -- ---- copies
 

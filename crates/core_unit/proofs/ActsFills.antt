@@ -23,22 +23,20 @@ use Rattle.pmsi_model.specs.Coherent.{ListsEachOnce}
 use Rattle.pmsi_model.proofs.Changes.{fill-memory, fill-own, fill-posted}
 use Rattle.pmsi_model.proofs.Held.{mode_to_front}
 use Rattle.pmsi_model.proofs.WriteBacks.{line_more, line_append_once, once_append_once}
-use Rattle.coherence_laws.proofs.ApartBytes.{IsFit, length-memory_after, memory_after_below, read_after}
-use Rattle.coherence_laws.proofs.ApartWants.{IsAsked}
-use Rattle.coherence_laws.proofs.Slots.{nobody_at_all}
-use Rattle.coherence_laws.proofs.Whole.{IsWhole}
+use Rattle.pmsi_model.proofs.Accesses.{IsFit, length-memory_after, memory_after_below, read_after}
+use Rattle.coherence_laws.proofs.Exports.{IsAsked, nobody_at_all, IsWhole}
 use Rattle.cache_array.specs.declared.line.CachedLine.{CachedLine}
 use Rattle.cache_array.specs.Cache.{held_of, words_of, put_first}
-use Rattle.cache_array.proofs.Lines.{held_of-put_first, words_of-put_first}
+use Rattle.cache_array.proofs.Exports.{held_of-put_first, words_of-put_first}
 use Rattle.rv_exec.specs.Accesses.{covered}
 use Rattle.core_unit.specs.declared.state.State.{State}
-use Rattle.core_unit.specs.State.{backs_filled, claimed_filled, core_of, lines_filled, met_among, retired_on, row_for, served, with_filled, with_row, words_with}
+use Rattle.core_unit.specs.State.{backs_filled, claimed_filled, core_of, filled_on, lines_filled, met_among, served, turned, words_with}
 use Rattle.core_unit.specs.Stands.{CopiesAgree, Carries}
 use Rattle.core_unit.specs.Parts.{AreClaims, KnowsClaims}
 use Rattle.core_unit.proofs.ActsCopies.{AreWords, copies_put, met_there, other_word, words_after}
-use Rattle.core_unit.proofs.Notes.{IsHearing}
-use Rattle.core_unit.proofs.NotesClaims.{claims_served, write_waits}
-use Rattle.core_unit.proofs.Steps.{rebuilt}
+use Rattle.core_unit.proofs.Carried.{rebuilt}
+use Rattle.core_unit.proofs.Snoops.{IsCoreIn}
+use Rattle.core_unit.proofs.SnoopsClaims.{claims_served, write_waits}
 use Rattle.core_unit.proofs.Words.{some_words}
 
 -- ---- what is left in the queue of the line
@@ -85,7 +83,7 @@ once_filled Write WriteBehind line claimed once = once_append_once line claimed 
 -- a request of a core that can be served, and the words of its line
 pub record IsServable (job : JobValue) (s : ℕ) (y : Machine) (c : ℕ) (want : Want) (words : List ℕ) (v : State) : Type 0 where
   pub whole : IsWhole job.shape s y.posted y.cores
-  pub hears : IsHearing job c y v
+  pub core_in : IsCoreIn job c y v
   pub wants : (y.cores c).want ≡ Some want
   pub posted : is_some want.post ≡ true
   pub asked : IsAsked job.shape want
@@ -94,18 +92,17 @@ pub record IsServable (job : JobValue) (s : ℕ) (y : Machine) (c : ℕ) (want :
 
 -- the state by a shape
 abbrev served_on : Geometry → Want → List ℕ → ℕ → Behind → State → State
-served_on shape want words post behind v =
-    with_row (row_for want post v) (with_filled want (words_with shape want.access words) behind (retired_on want.access (met_among shape want.access words) v))
+served_on shape want words post behind v = turned (filled_on shape want words post behind v)
 
 module _ (job : JobValue) (s : ℕ) (y : Machine) (c : ℕ) (want : Want) (words : List ℕ) (v : State) (f : IsServable job s y c want words v) where
   some : 0 < job.shape.line_words
-  some = some_words job.shape f.hears.stands.carries.within.shape
+  some = some_words job.shape f.core_in.stands.carries.within.shape
 
   fit : IsFit (length y.memory) want.access
-  fit = subst (λ (n : ℕ). IsFit n want.access) (sym f.hears.stands.carries.bytes) f.asked.fit
+  fit = subst (λ (n : ℕ). IsFit n want.access) (sym f.core_in.stands.carries.bytes) f.asked.fit
 
   small : All (λ byte. byte < 256) y.memory
-  small = f.hears.stands.carries.small
+  small = f.core_in.stands.carries.small
 
   read_there : AreWords job.shape.line_words y.memory (line_of job.shape want.access.address) words
   read_there = subst (λ (l : ℕ). AreWords job.shape.line_words y.memory l words) f.asked.line f.read
@@ -113,6 +110,11 @@ module _ (job : JobValue) (s : ℕ) (y : Machine) (c : ℕ) (want : Want) (words
   new_there : AreWords job.shape.line_words (memory_after want.access y.memory) want.line (words_with job.shape want.access words)
   new_there = subst (λ (l : ℕ). AreWords job.shape.line_words (memory_after want.access y.memory) l (words_with job.shape want.access words)) (sym f.asked.line)
       (words_after job.shape want.access y.memory words some fit.aligned small read_there (length-memory_after want.access y.memory))
+
+  -- the word that its access meets is that of memory
+  pub met_now : covered want.access (met_among v.shape want.access words) ≡ met_bytes want.access y.memory
+  met_now = ap (λ (g : Geometry). covered want.access (met_among g want.access words)) f.core_in.stands.carries.shape
+      ∙ met_there job.shape want.access y.memory words some fit.aligned small read_there
 
   -- the line in the cache
   put_agree : (new : Mode) → CopiesAgree job (memory_after want.access y.memory) (put_first want.line new (words_with job.shape want.access words) v.cache.lines)
@@ -124,10 +126,10 @@ module _ (job : JobValue) (s : ℕ) (y : Machine) (c : ℕ) (want : Want) (words
       (λ l place below away within. other_word job.shape want.access y.memory words some fit.aligned small read_there l place below (λ same. away (same ∙ sym f.asked.line)) within)
       (λ l. ap (mode_of l) (held_of-put_first want.line new (words_with job.shape want.access words) v.cache.lines) ∙ mode_to_front l want.line new (held_of v.cache.lines))
       (λ l. words_of-put_first want.line l new (words_with job.shape want.access words) v.cache.lines)
-      f.hears.stands.carries.agree
+      f.core_in.stands.carries.agree
 
   kept_agree : want.kind ≡ Read → CopiesAgree job (memory_after want.access y.memory) v.cache.lines
-  kept_agree reads = subst (λ (m : List ℕ). CopiesAgree job m v.cache.lines) (sym (read_after want.access y.memory fit (sym f.asked.kind ∙ reads))) f.hears.stands.carries.agree
+  kept_agree reads = subst (λ (m : List ℕ). CopiesAgree job m v.cache.lines) (sym (read_after want.access y.memory fit (sym f.asked.kind ∙ reads))) f.core_in.stands.carries.agree
 
   agree_by : (kind : Kind) (behind : Behind) → want.kind ≡ kind
       → CopiesAgree job (memory_after want.access y.memory) (lines_filled kind behind want.line (words_with job.shape want.access words) v.cache.lines)
@@ -137,8 +139,8 @@ module _ (job : JobValue) (s : ℕ) (y : Machine) (c : ℕ) (want : Want) (words
   agree_by Write behind writes = put_agree Modified
 
   carries_filled : (post : ℕ) (behind : Behind) → Carries job c (memory_after want.access y.memory) (served_on job.shape want words post behind v)
-  carries_filled post behind = rebuilt job c y.memory (memory_after want.access y.memory) v (served_on job.shape want words post behind v) f.hears.stands.carries
-      refl refl refl refl refl (length-memory_after want.access y.memory) (memory_after_below want.access y.memory small) (agree_by want.kind behind refl) (λ w none. absurd (grind arith))
+  carries_filled post behind = rebuilt job c y.memory (memory_after want.access y.memory) v (served_on job.shape want words post behind v) f.core_in.stands.carries
+      refl (length-memory_after want.access y.memory) (memory_after_below want.access y.memory small) (agree_by want.kind behind refl) (λ w none. absurd (grind arith))
 
   -- the core by the bytes that its access meets, its lines, and its lines to write back
   abbrev core_with : List ℕ → List (ℕ × Mode) → List ℕ → CoreState
@@ -160,7 +162,7 @@ module _ (job : JobValue) (s : ℕ) (y : Machine) (c : ℕ) (want : Want) (words
         want = None;
         write_backs = append_demanded want.kind (has_request want.line (removed c y.posted)) want.line k.write_backs;
         turn = WriteBackTurn;
-      } in j) f.hears.stands.core
+      } in j) f.core_in.stands.core
       ∙ ap (λ (bytes : List ℕ). core_with bytes (filled_line want.kind (has_write want.line (removed c y.posted)) want.line (held_of v.cache.lines)) (append_demanded want.kind (has_request want.line (removed c y.posted)) want.line v.pending.write_backs))
       (sym (met_there job.shape want.access y.memory words some fit.aligned small read_there))
       ∙ ap (λ (held : List (ℕ × Mode)). core_with (covered want.access (met_among job.shape want.access words)) held (append_demanded want.kind (has_request want.line (removed c y.posted)) want.line v.pending.write_backs))
@@ -180,13 +182,13 @@ module _ (job : JobValue) (s : ℕ) (y : Machine) (c : ℕ) (want : Want) (words
 
   -- the core doesn't list the line that it wants
   pub wanted_unlisted : has_line want.line v.pending.write_backs ≡ false
-  wanted_unlisted = ap (λ (k : CoreState). has_line want.line k.write_backs) (sym f.hears.stands.core) ∙ unlisted_by (has_line want.line (y.cores c).write_backs) refl
+  wanted_unlisted = ap (λ (k : CoreState). has_line want.line k.write_backs) (sym f.core_in.stands.core) ∙ unlisted_by (has_line want.line (y.cores c).write_backs) refl
 
   claims_after : KnowsClaims (removed c y.posted) (served_on job.shape want words 0 (behind_in want.line (removed c y.posted)) v)
   claims_after = claims_filled (removed c y.posted) want.kind (has_write want.line (removed c y.posted)) (has_request want.line (removed c y.posted)) want.line v.pending.write_backs v.claimed wanted_unlisted refl
-      (claims_served c y.posted (record { core = c; line = want.line; kind = want.kind }) v.pending.write_backs v.claimed f.whole.once requested wanted_unlisted f.hears.claims)
+      (claims_served c y.posted (record { core = c; line = want.line; kind = want.kind }) v.pending.write_backs v.claimed f.whole.once requested wanted_unlisted f.core_in.claims)
 
-  served_by_job : (post : ℕ) → IsHearing job c (fill y c) (served_on job.shape want words post (behind_in want.line (removed c y.posted)) v)
+  served_by_job : (post : ℕ) → IsCoreIn job c (fill y c) (served_on job.shape want words post (behind_in want.line (removed c y.posted)) v)
   served_by_job post = record {
     stands = record {
       carries = subst (λ (memory : List ℕ). Carries job c memory (served_on job.shape want words post (behind_in want.line (removed c y.posted)) v)) (sym (fill-memory y c want f.wants))
@@ -194,8 +196,8 @@ module _ (job : JobValue) (s : ℕ) (y : Machine) (c : ℕ) (want : Want) (words
       core = core_filled post;
     };
     claims = subst (λ (posted : List Request). KnowsClaims posted (served_on job.shape want words post (behind_in want.line (removed c y.posted)) v)) (sym (fill-posted y c want f.wants)) claims_after;
-    once = once_filled want.kind (behind_in want.line (removed c y.posted)) want.line v.claimed f.hears.once;
+    once = once_filled want.kind (behind_in want.line (removed c y.posted)) want.line v.claimed f.core_in.once;
   }
 
-  pub fill_served : (post : ℕ) → IsHearing job c (fill y c) (served want words post (behind_in want.line (removed c y.posted)) v)
-  fill_served post = subst (λ (g : Geometry). IsHearing job c (fill y c) (served_on g want words post (behind_in want.line (removed c y.posted)) v)) (sym f.hears.stands.carries.shape) (served_by_job post)
+  pub fill_served : (post : ℕ) → IsCoreIn job c (fill y c) (served want words post (behind_in want.line (removed c y.posted)) v)
+  fill_served post = subst (λ (g : Geometry). IsCoreIn job c (fill y c) (served_on g want words post (behind_in want.line (removed c y.posted)) v)) (sym f.core_in.stands.carries.shape) (served_by_job post)

@@ -14,18 +14,16 @@ use Rattle.pmsi_model.specs.Slots.{plan_of, owner_of_slot}
 use Rattle.pmsi_model.specs.Machine.{Machine, CoreState, mode_of, has_line}
 use Rattle.pmsi_model.specs.Phase.{set_lines}
 use Rattle.pmsi_model.specs.Bus.{post_at}
-use Rattle.coherence_laws.proofs.Counts.{backs_fewer}
-use Rattle.coherence_laws.proofs.Fine.{FineCore}
-use Rattle.coherence_laws.proofs.Whole.{IsWhole}
+use Rattle.coherence_laws.proofs.Exports.{backs_fewer, FineCore, IsWhole}
 use Rattle.cache_array.specs.Cache.{Holds as IsHeld, held_of}
 use Rattle.core_unit.specs.declared.state.State.{State}
 use Rattle.core_unit.specs.State.{asked, backs_filled, core_of, served}
 use Rattle.core_unit.specs.Stands.{CanServe, CanTake}
-use Rattle.core_unit.specs.Parts.{HasRows}
+use Rattle.core_unit.specs.Parts.{HasRows, HasTouches}
 use Rattle.core_unit.proofs.ActsRows.{row_fits}
-use Rattle.core_unit.proofs.Notes.{IsHearing}
-use Rattle.core_unit.proofs.NotesClaims.{claims_fit}
-use Rattle.core_unit.proofs.Quanta.{retired_fits}
+use Rattle.core_unit.proofs.ActsTouches.{touches_before, want_fits, want_retires}
+use Rattle.core_unit.proofs.Snoops.{IsCoreIn}
+use Rattle.core_unit.proofs.SnoopsClaims.{claims_fit}
 use Rattle.core_unit.proofs.Steps.{either}
 
 backs_grow : (kind : Kind) (behind : Behind) (line : ℕ) (lines : List ℕ) → length lines ≤ length (backs_filled kind behind line lines)
@@ -35,8 +33,9 @@ backs_grow Write Reads line lines = omega (arith, length-append lines (line ∷ 
 backs_grow Write WriteBehind line lines = omega (arith, length-append lines (line ∷ []))
 
 -- once a request is served its core wants nothing, so there was room among its lines to write back
-pub backs_room : (job : JobValue) (s c : ℕ) (z : Machine) (want : Want) (words : List ℕ) (post : ℕ) (behind : Behind) (v : State) → IsWhole job.shape s z.posted z.cores → c < job.shape.cores
-    → IsHearing job c z (served want words post behind v) → length v.pending.write_backs < job.shape.cores
+pub backs_room : (job : JobValue) (s c : ℕ) (z : Machine) (want : Want) (words : List ℕ) (post : ℕ) (behind : Behind) (v : State)
+    → IsWhole job.shape s z.posted z.cores → c < job.shape.cores
+    → IsCoreIn job c z (served want words post behind v) → length v.pending.write_backs < job.shape.cores
 backs_room job s c z want words post behind v w below h =
     let fewer : length (backs_filled want.kind behind want.line v.pending.write_backs) < job.shape.cores =
     backs_fewer job.shape s z.posted z.cores c (core_of (served want words post behind v)) w
@@ -46,7 +45,7 @@ backs_room job s c z want words post behind v w below h =
 -- a want that is served, of a core in an own slot
 pub record IsNeeded (job : JobValue) (slot c : ℕ) (y : Machine) (want : Want) (words : List ℕ) (v : State) : Type 0 where
   pub whole : IsWhole job.shape (slot + 1) y.posted y.cores
-  pub hears : IsHearing job c y v
+  pub core_in : IsCoreIn job c y v
   pub own : owner_of_slot (plan_of job) slot ≡ c
   pub more : slot < job.shape.slots
   pub wants : (y.cores c).want ≡ Some want
@@ -56,42 +55,46 @@ pub record IsNeeded (job : JobValue) (slot c : ℕ) (y : Machine) (want : Want) 
   pub unlisted : has_line want.line v.pending.write_backs ≡ false
   pub backs : length v.pending.write_backs < job.shape.cores
   pub rows : HasRows job slot c v
-  pub retired : v.retired ≤ slot * (job.shape.quantum + 1) + job.shape.quantum
+  pub touched : HasTouches job (touches_before job slot c) ((slot + 1) * job.shape.quantum) v
 
 module _ (job : JobValue) (slot c : ℕ) (y : Machine) (want : Want) (words : List ℕ) (v : State) (n : IsNeeded job slot c y want words v) where
   shape : IsGeometry job.shape
-  shape = n.hears.stands.carries.within.shape
+  shape = n.core_in.stands.carries.within.shape
 
   wanted : v.pending.want ≡ Some want
-  wanted = ap (λ (k : CoreState). k.want) (sym n.hears.stands.core) ∙ n.wants
+  wanted = ap (λ (k : CoreState). k.want) (sym n.core_in.stands.core) ∙ n.wants
 
   fits : IsHeld want.line v.cache.lines ⊎ (length (set_lines v.shape want.line (held_of v.cache.lines)) < v.shape.ways)
-  fits = subst (λ (g : Geometry). IsHeld want.line v.cache.lines ⊎ (length (set_lines g want.line (held_of v.cache.lines)) < g.ways)) (sym n.hears.stands.carries.shape)
-      (subst (λ (k : CoreState). (mode_of want.line k.held ≢ None) ⊎ (length (set_lines job.shape want.line k.held) < job.shape.ways)) n.hears.stands.core
-      (either (λ held. inl held) (λ else_. either (λ few. inr few) (λ victim. absurd (victim n.free)) else_) ((n.whole.fine c).want_fine want n.wants).has_room))
+  fits = subst (λ (g : Geometry). IsHeld want.line v.cache.lines ⊎ (length (set_lines g want.line (held_of v.cache.lines)) < g.ways))
+      (sym n.core_in.stands.carries.shape)
+      (subst (λ (k : CoreState). (mode_of want.line k.held ≢ None) ⊎ (length (set_lines job.shape want.line k.held) < job.shape.ways)) n.core_in.stands.core
+      (either (λ held. inl held) (λ else_. either (λ few. inr few) (λ victim. absurd (victim n.free)) else_)
+      ((n.whole.fine c).want_fine want n.wants).has_room))
 
   pub takes : CanTake want words v
   takes = record {
-    cache = n.hears.stands.carries.cache ∙ sym n.hears.stands.carries.shape;
-    count = n.count ∙ ap (λ (g : Geometry). g.line_words) (sym n.hears.stands.carries.shape);
+    cache = n.core_in.stands.carries.cache ∙ sym n.core_in.stands.carries.shape;
+    count = n.count ∙ ap (λ (g : Geometry). g.line_words) (sym n.core_in.stands.carries.shape);
     fits = fits;
-    backs = λ writes. (let backs = n.backs in let cores = n.hears.stands.carries.cores in omega arith);
+    backs = λ writes. (let backs = n.backs in let cores = n.core_in.stands.carries.cores in omega arith);
     unqueued = λ writes has. (let none = n.unlisted in absurd (grind arith));
-    claims = λ writes. (let backs = n.backs in let few = claims_fit y.posted v n.hears.once n.hears.claims in let most = shape.cores in omega arith);
+    claims = λ writes. (let backs = n.backs in let few = claims_fit y.posted v n.core_in.once n.core_in.claims in let most = shape.cores in omega arith);
   }
 
   pub serves : CanServe want words v
   serves = record {
     takes = takes;
-    shape = subst IsGeometry (sym n.hears.stands.carries.shape) shape;
+    shape = subst IsGeometry (sym n.core_in.stands.carries.shape) shape;
     aligned = n.aligned;
-    retires = retired_fits slot job.shape.slots job.shape.quantum job.shape.quantum v.retired n.more shape.slots shape.quantum (omega arith) n.retired;
-    rows = row_fits job.shape.cores (length v.rows.rows) slot job.shape.slots c v.rows.room (let some = shape.some_cores in omega arith) n.own n.rows.few n.more n.rows.room;
+    retires = want_retires job slot (touches_before job slot c) v want n.core_in.stands.carries.within n.more wanted n.touched;
+    rows = row_fits job slot c v v n.own n.rows n.more;
+    touches = want_fits job slot (touches_before job slot c) v want n.core_in.stands.carries.within n.more wanted n.touched;
     wanted = (let is = wanted in λ none. absurd (grind arith));
   }
 
   asked_wants : option_map (post_at v.slot) v.pending.want ≢ None
-  asked_wants none = let is : option_map (post_at v.slot) v.pending.want ≡ Some (post_at v.slot want) = ap (option_map (post_at v.slot)) wanted in absurd (grind arith)
+  asked_wants none = let is : option_map (post_at v.slot) v.pending.want ≡ Some (post_at v.slot want) = ap (option_map (post_at v.slot)) wanted in
+      absurd (grind arith)
 
   -- also once its request is posted
   pub serves_asked : CanServe want words (asked v)
@@ -101,5 +104,6 @@ module _ (job : JobValue) (slot c : ℕ) (y : Machine) (want : Want) (words : Li
     aligned = serves.aligned;
     retires = serves.retires;
     rows = serves.rows;
+    touches = serves.touches;
     wanted = asked_wants;
   }

@@ -10,24 +10,25 @@ use Rattle.pmsi_model.specs.declared.Mode.TheVariants.{Modified}
 use Rattle.pmsi_model.specs.declared.Want.{Want}
 use Rattle.pmsi_model.specs.Job.{JobValue}
 use Rattle.pmsi_model.specs.Machine.{Machine, CoreState, Request, mode_in, first_of, has_line, has_request, has_write, nobody_owns, removed, request_of}
+use Rattle.pmsi_model.specs.Phase.{met_bytes}
 use Rattle.pmsi_model.specs.Bus.{fill, post, post_at}
 use Rattle.pmsi_model.specs.Coherent.{RequestsOnce}
 use Rattle.pmsi_model.specs.Shared.{behind_in}
 use Rattle.pmsi_model.proofs.Cases.{by_bool}
 use Rattle.pmsi_model.proofs.Changes.{post-memory, post-own, post-posted, posted_core}
 use Rattle.pmsi_model.proofs.Requests.{first_more, first_request, first_some}
-use Rattle.coherence_laws.proofs.Acts.{post_whole}
-use Rattle.coherence_laws.proofs.ApartWants.{IsAsked}
-use Rattle.coherence_laws.proofs.Whole.{IsWhole}
+use Rattle.coherence_laws.proofs.Exports.{post_whole, IsAsked, IsWhole}
+use Rattle.rv_exec.specs.Accesses.{covered}
 use Rattle.core_unit.specs.declared.state.State.{State}
-use Rattle.core_unit.specs.State.{asked, core_of, served}
+use Rattle.core_unit.specs.State.{asked, core_of, met_among, served}
 use Rattle.core_unit.specs.Stands.{Carries, IsWantOf}
 use Rattle.core_unit.specs.Parts.{KnowsClaims}
 use Rattle.core_unit.proofs.ActsCopies.{AreWords}
-use Rattle.core_unit.proofs.ActsFills.{IsServable, fill_served}
-use Rattle.core_unit.proofs.Notes.{IsHearing}
-use Rattle.core_unit.proofs.NotesClaims.{claims_posted, write_waits}
-use Rattle.core_unit.proofs.Steps.{rebuilt}
+use Rattle.core_unit.proofs.ActsFills.{IsServable, fill_served, met_now}
+use Rattle.core_unit.proofs.Carried.{relined}
+use Rattle.core_unit.proofs.Snoops.{IsCoreIn}
+use Rattle.core_unit.proofs.Sides.{asked_at}
+use Rattle.core_unit.proofs.SnoopsClaims.{claims_posted, write_waits}
 
 -- ---- the queue of a request that is served when it is posted
 
@@ -67,7 +68,7 @@ unowned_by Write mode read write owned = write refl owned
 -- a core's request that isn't posted, and can be
 pub record IsPostable (job : JobValue) (y : Machine) (c : ℕ) (want : Want) (v : State) : Type 0 where
   pub whole : IsWhole job.shape (y.slot + 1) y.posted y.cores
-  pub hears : IsHearing job c y v
+  pub core_in : IsCoreIn job c y v
   pub now : v.slot ≡ y.slot
   pub below : c < job.shape.cores
   pub wants : (y.cores c).want ≡ Some want
@@ -84,19 +85,19 @@ module _ (job : JobValue) (y : Machine) (c : ℕ) (want : Want) (v : State) (p :
   unlisted_by false has = refl
 
   pub unlisted : has_line want.line v.pending.write_backs ≡ false
-  unlisted = ap (λ (k : CoreState). has_line want.line k.write_backs) (sym p.hears.stands.core) ∙ unlisted_by (has_line want.line (y.cores c).write_backs) refl
+  unlisted = ap (λ (k : CoreState). has_line want.line k.write_backs) (sym p.core_in.stands.core) ∙ unlisted_by (has_line want.line (y.cores c).write_backs) refl
 
-  pub post_asked : IsHearing job c (post y c want.kind want.line) (asked v)
+  pub post_asked : IsCoreIn job c (post y c want.kind want.line) (asked v)
   post_asked = record {
     stands = record {
       carries = subst (λ (memory : List ℕ). Carries job c memory (asked v)) (sym (post-memory y c want.kind want.line))
-          (rebuilt job c y.memory y.memory v (asked v) p.hears.stands.carries refl refl refl refl refl refl p.hears.stands.carries.small p.hears.stands.carries.agree
-          (posted_want job v.slot v.pending.want p.hears.stands.carries.want));
-      core = post-own y c want.kind want.line ∙ ap (posted_core y.slot) p.hears.stands.core ∙ ap (λ (slot : ℕ). posted_core slot (core_of v)) (sym p.now);
+          (relined job c y.memory v (asked v) p.core_in.stands.carries refl p.core_in.stands.carries.agree
+          (posted_want job v.slot v.pending.want p.core_in.stands.carries.want));
+      core = post-own y c want.kind want.line ∙ ap (posted_core y.slot) p.core_in.stands.core ∙ ap (λ (slot : ℕ). posted_core slot (core_of v)) (sym p.now);
     };
     claims = subst (λ (posted : List Request). KnowsClaims posted (asked v)) (sym (post-posted y c want.kind want.line))
-        (claims_posted y.posted (record { core = c; line = want.line; kind = want.kind }) v.pending.write_backs v.claimed unlisted p.hears.claims);
-    once = p.hears.once;
+        (claims_posted y.posted (record { core = c; line = want.line; kind = want.kind }) v.pending.write_backs v.claimed unlisted p.core_in.claims);
+    once = p.core_in.once;
   }
 
   -- ---- the request is filled at once
@@ -108,17 +109,21 @@ module _ (job : JobValue) (y : Machine) (c : ℕ) (want : Want) (v : State) (p :
     pub posted_servable : IsServable job (y.slot + 1) (post y c want.kind want.line) c (post_at y.slot want) words (asked v)
     posted_servable = record {
       whole = posted_whole;
-      hears = post_asked;
+      core_in = post_asked;
       wants = ap (λ (k : CoreState). k.want) (post-own y c want.kind want.line) ∙ ap (option_map (post_at y.slot)) p.wants;
       posted = refl;
-      asked = (let a = p.asked in record { fit = a.fit; line = a.line; kind = a.kind });
+      asked = asked_at job.shape y.slot want p.asked;
       nobody = nobody;
       read = subst (λ (memory : List ℕ). AreWords job.shape.line_words memory want.line words) (sym (post-memory y c want.kind want.line)) read;
     }
 
+    pub met_then : covered want.access (met_among v.shape want.access words) ≡ met_bytes want.access y.memory
+    met_then = met_now job (y.slot + 1) (post y c want.kind want.line) c (post_at y.slot want) words (asked v) posted_servable
+        ∙ ap (met_bytes want.access) (post-memory y c want.kind want.line)
+
     pub post_served : (slot : ℕ) → first_of want.line (post y c want.kind want.line).posted ≡ Some c → request_of c y.posted ≡ None
-        → IsHearing job c (fill (post y c want.kind want.line) c) (served want words slot Nobody (asked v))
-    post_served slot first none = subst (λ (behind : Behind). IsHearing job c (fill (post y c want.kind want.line) c) (served want words slot behind (asked v)))
+        → IsCoreIn job c (fill (post y c want.kind want.line) c) (served want words slot Nobody (asked v))
+    post_served slot first none = subst (λ (behind : Behind). IsCoreIn job c (fill (post y c want.kind want.line) c) (served want words slot behind (asked v)))
         (ap (λ (posted : List Request). behind_in want.line (removed c posted)) (post-posted y c want.kind want.line)
         ∙ nobody_behind c y.posted (record { core = c; line = want.line; kind = want.kind }) p.whole.once refl none
         (ap (first_of want.line) (sym (post-posted y c want.kind want.line)) ∙ first))

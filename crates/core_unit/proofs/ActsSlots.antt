@@ -1,5 +1,5 @@
 -- The action of a slot's owner: what it needs, and where it leads.
-use Rattle.std.proofs.Common.{◌≡◌, ℕ, ◌+◌, ◌*◌, ◌%◌, ◌^◌, ◌<◌, ◌≤◌, ◌&&◌, List, [], ◌∷◌, length, Option, Some, None, is_some, Bool, true, false, if◌then◌else◌, refl, sym, ap, ◌∙◌, subst, arith}
+use Rattle.std.proofs.Common.{◌≡◌, ℕ, ◌+◌, ◌*◌, ◌^◌, ◌<◌, ◌≤◌, ◌&&◌, List, [], ◌∷◌, ◌++◌, length, Option, Some, None, is_some, Bool, true, false, if◌then◌else◌, refl, sym, ap, ◌∙◌, subst, arith}
 use Rattle.std.specs.Option.{unwrap_or}
 use Rattle.pmsi_model.specs.declared.job.Geometry.{Geometry}
 use Rattle.pmsi_model.specs.declared.Action.{Action}
@@ -8,48 +8,48 @@ use Rattle.pmsi_model.specs.declared.Behind.TheVariants.{Nobody}
 use Rattle.pmsi_model.specs.declared.Kind.{Kind}
 use Rattle.pmsi_model.specs.declared.Mode.TheVariants.{Modified}
 use Rattle.pmsi_model.specs.declared.Name.{Name}
+use Rattle.pmsi_model.specs.declared.Touch.{Touch}
 use Rattle.pmsi_model.specs.declared.Want.{Want}
 use Rattle.pmsi_model.specs.Job.{JobValue, IsJob}
-use Rattle.pmsi_model.specs.Slots.{plan_of, owner_of_slot}
+use Rattle.pmsi_model.specs.Slots.{SlotPlan, plan_of, owner_of_slot}
 use Rattle.pmsi_model.specs.Machine.{Machine, CoreState, Request, mode_of, mode_in, first_of, has_line, nobody_owns, owner_of, removed, request_of}
-use Rattle.pmsi_model.specs.Phase.{Context, context_of}
-use Rattle.pmsi_model.specs.Bus.{action_of, after_action, fill, is_core, is_served, keeps_line, kind_of_name, name_of, post, requests_now}
+use Rattle.pmsi_model.specs.Phase.{Context, context_of, met_bytes, touches_by}
+use Rattle.pmsi_model.specs.Bus.{action_of, after_action, clear_victim, fill, is_core, is_served, keeps_line, kind_of_name, name_of, post, post_at, requests_now}
 use Rattle.pmsi_model.specs.Coherent.{ListsEachOnce, posted_request}
-use Rattle.pmsi_model.specs.Run.{after_phases, machine_at}
-use Rattle.pmsi_model.specs.Shared.{BusSide, CanFill, CanPost, CanWriteBack, IsLine, behind_in, is_ready, line_in, posted_in, side_filled, side_idle, side_posted}
+use Rattle.pmsi_model.specs.Run.{action_touch, after_phases, machine_at, want_touch}
+use Rattle.pmsi_model.specs.Shared.{SharedValue, BusSide, CanFill, CanPost, CanWriteBack, IsLine, behind_in, is_ready, line_in, posted_in, side_filled, side_idle, side_posted}
 use Rattle.pmsi_model.specs.Parts.{IsBusPart, IsSharedOf}
 use Rattle.pmsi_model.proofs.Cases.{by_test}
-use Rattle.coherence_laws.proofs.Acts.{fill_whole}
-use Rattle.coherence_laws.proofs.ApartWants.{IsAsked}
-use Rattle.coherence_laws.proofs.Fine.{no_victim}
-use Rattle.coherence_laws.proofs.Slots.{kind_named, nobody_at_all, phases_at, post_fill_whole}
-use Rattle.coherence_laws.proofs.Whole.{IsWhole}
+use Rattle.coherence_laws.proofs.Exports.{fill_whole, IsAsked, no_victim, kind_named, nobody_at_all, phases_at, post_fill_whole, IsWhole}
 use Rattle.pend_buffers.specs.declared.Choice.{Choice}
 use Rattle.pend_buffers.specs.declared.Choice.TheVariants.{Idle as IdleChoice, Request as RequestChoice, Back as BackChoice}
 use Rattle.pend_buffers.specs.Pending.{choice_of}
 use Rattle.cache_array.specs.Cache.{Holds as IsHeld, held_of, words_of}
+use Rattle.rv_exec.specs.Accesses.{covered}
 use Rattle.core_unit.specs.declared.state.State.{State}
-use Rattle.core_unit.specs.State.{asked, backed, core_of, fills_at_once, keeps, name_for, posted_state, row_for, served, stepped}
+use Rattle.core_unit.specs.State.{asked, backed, core_of, fills_at_once, keeps, met_among, name_for, posted_state, row_for, served, stepped, touch_on, with_touch}
 use Rattle.core_unit.specs.Stands.{StandsFor}
-use Rattle.core_unit.specs.Parts.{CanAct, HasRows, IsPart, IsPartAfter, KnowsClaims}
+use Rattle.core_unit.specs.Parts.{CanAct, HasRows, IsPart, IsPartAfter, KnowsClaims, own_touches}
 use Rattle.core_unit.specs.Acts.{CanBack, CanFillFor, CanPostFor, CanRequest, IsActed, IsBacked, IsFilled, IsPosted, IsRequested}
 use Rattle.core_unit.proofs.ActsBacks.{IsWritable, back_backed, keeps_is}
 use Rattle.core_unit.proofs.ActsCopies.{AreWords}
-use Rattle.core_unit.proofs.ActsFills.{IsServable, fill_served, wanted_unlisted}
+use Rattle.core_unit.proofs.ActsFills.{IsServable, fill_served, met_now, wanted_unlisted}
 use Rattle.core_unit.proofs.ActsNeeds.{IsNeeded, backs_room, serves, serves_asked}
-use Rattle.core_unit.proofs.ActsPosts.{IsPostable, post_asked, post_served, unlisted}
+use Rattle.core_unit.proofs.ActsPosts.{IsPostable, met_then, post_asked, post_served, unlisted}
 use Rattle.core_unit.proofs.ActsRows.{rows_grow, rows_stay, served_row}
+use Rattle.core_unit.proofs.ActsTouches.{IsTouched, acted_own, ended_touches, served_touched, still_standing, touches_after, touches_before, touched_none}
 use Rattle.core_unit.proofs.Carried.{carried, claims_carried}
-use Rattle.core_unit.proofs.Notes.{IsHearing}
-use Rattle.core_unit.proofs.NotesSlots.{stands_stepped}
+use Rattle.core_unit.proofs.Snoops.{IsCoreIn}
+use Rattle.core_unit.proofs.SnoopsSlots.{stands_stepped}
 use Rattle.core_unit.proofs.Sides.{IsBackable, asked_below, line_within}
 use Rattle.core_unit.proofs.SidesNext as side
 use Rattle.core_unit.proofs.SidesReady.{action_fills, action_posts, action_backs, action_idles, choice_backs, choice_idles, choice_requests, free_now, no_request, ready_posted, wants_now}
 
--- the core of a job whose slot it is, by its number and shape
-pub own_of : (job : JobValue) (slot c : ℕ) (v : State) (b : BusSide) → CanAct v b → IsPartAfter job slot c v → owner_of_slot (plan_of job) slot ≡ c
-own_of job slot c v b can p = let mine = p.in_slot.stands.carries in let theirs = can.part.in_slot.stands.carries in
-    ap (λ (g : Geometry). slot % g.cores) (sym mine.shape ∙ theirs.shape) ∙ ap (λ (s : ℕ). s % can.job.shape.cores) (sym p.in_slot.now) ∙ can.own ∙ sym theirs.number ∙ mine.number
+-- the core of a job whose slot it is, by its number and plan
+pub owner_is : (job : JobValue) (slot c : ℕ) (v : State) (b : BusSide) → CanAct v b → IsPartAfter job slot c v → owner_of_slot (plan_of job) slot ≡ c
+owner_is job slot c v b can p = let mine = p.in_slot.stands.carries in let theirs = can.part.in_slot.stands.carries in
+    ap (λ (plan : SlotPlan). owner_of_slot plan slot) (sym mine.plan ∙ theirs.plan) ∙ ap (owner_of_slot (plan_of can.job)) (sym p.in_slot.now) ∙ can.own
+    ∙ sym theirs.number ∙ mine.number
 
 first_is : (c : ℕ) (o : Option ℕ) (b : Bool) → (is_core c o && b) ≡ true → o ≡ Some c
 first_is c None b is = absurd (grind arith)
@@ -62,31 +62,40 @@ second_is false b is = absurd (grind arith)
 line_extent : (line words memory : ℕ) → (line + 1) * (4 * words) ≤ memory → 4 * ((line + 1) * words) ≤ memory
 line_extent line words memory within = let e : (line + 1) * (4 * words) ≡ 4 * ((line + 1) * words) = grind arith in omega arith
 
-next_retired : (slot quantum : ℕ) → (slot + 1) * (quantum + 1) ≡ slot * (quantum + 1) + (quantum + 1)
-next_retired slot quantum = grind arith
-
 posted_keeps : (c line : ℕ) (name : Name) (b : BusSide) → (side_posted c line name b).keeps ≡ b.keeps
 posted_keeps c line name b = grind arith
 
-requested_keeps : (post : Option ℕ) (want : Want) (v : State) (b : BusSide) (action : Action) (w : State) (after : BusSide) → IsRequested post want v b action w after → after.keeps ≡ b.keeps
-requested_keeps None want v b action w after d = ap (λ (s : BusSide). s.keeps) d.side ∙ posted_keeps v.number want.line (name_for want v) b
-requested_keeps (Some at) want v b action w after d = ap (λ (s : BusSide). s.keeps) d.side
+posted_kept : (want : Want) (v : State) (m : SharedValue) → (posted_state want m v).keeps ≡ v.keeps
+posted_kept want v m = by_test (λ (w : State). w.keeps ≡ v.keeps) (fills_at_once want m v) (served want (line_in m want.line) v.slot Nobody (asked v)) (asked v)
+    (λ filled. refl) (λ waits. refl)
 
-module _ (job : JobValue) (slot c : ℕ) (v : State) (b : BusSide) (p : IsPartAfter job slot c v) (q : IsBusPart job slot b) (own : owner_of_slot (plan_of job) slot ≡ c) where
+-- what the core and the bus keep stays
+requested_keeps : (post : Option ℕ) (want : Want) (v : State) (b : BusSide) (action : Action) (w : State) (after : BusSide)
+    → IsRequested post want v b action w after
+    → (w.keeps ≡ v.keeps) × (after.keeps ≡ b.keeps)
+requested_keeps None want v b action w after d = (
+  ap (λ (u : State). u.keeps) d.core ∙ posted_kept want v b.memory,
+  ap (λ (s : BusSide). s.keeps) d.side
+      ∙ posted_keeps v.number want.line (name_for want v) b,
+)
+requested_keeps (Some at) want v b action w after d = (ap (λ (u : State). u.keeps) d.core, ap (λ (s : BusSide). s.keeps) d.side)
+
+module _ (job : JobValue) (slot c : ℕ) (v : State) (b : BusSide) (p : IsPartAfter job slot c v) (q : IsBusPart job slot b)
+    (own : owner_of_slot (plan_of job) slot ≡ c) where
   abbrev y : Machine
   y = after_phases job (machine_at job slot)
 
   is : IsJob job
   is = p.in_slot.stands.carries.within
 
-  hears : IsHearing job c y v
-  hears = record { stands = carried job slot c v p; claims = claims_carried job slot c v p; once = p.in_slot.once }
+  core_in : IsCoreIn job c y v
+  core_in = record { stands = carried job slot c v p; claims = claims_carried job slot c v p; once = p.in_slot.once }
 
   core : y.cores c ≡ core_of v
-  core = hears.stands.core
+  core = core_in.stands.core
 
   number : v.number ≡ c
-  number = hears.stands.carries.number
+  number = core_in.stands.carries.number
 
   whole : IsWhole job.shape (slot + 1) y.posted y.cores
   whole = phases_at job is slot job.shape.cores (omega arith)
@@ -101,7 +110,7 @@ module _ (job : JobValue) (slot c : ℕ) (v : State) (b : BusSide) (p : IsPartAf
   here = p.in_slot.now ∙ sym now
 
   below : c < job.shape.cores
-  below = hears.stands.carries.below
+  below = core_in.stands.carries.below
 
   side_now : IsSharedOf job y b.memory
   side_now = side.side_now job slot c b is q p.more own
@@ -121,22 +130,26 @@ module _ (job : JobValue) (slot c : ℕ) (v : State) (b : BusSide) (p : IsPartAf
   chosen choice made = ap (λ (d : ℕ). choice_of (is_ready b.memory d) v.pending) (sym number) ∙ made
 
   pub requests : choice_of (is_ready b.memory v.number) v.pending ≡ RequestChoice → requests_now job y c ≡ true
-  requests made = choice_requests job y b.memory c v.pending side_now wants_posted (ap (λ (k : CoreState). k.want) (sym core)) (ap (λ (k : CoreState). k.write_backs) (sym core)) (ap (λ (k : CoreState). k.turn) (sym core))
+  requests made = choice_requests job y b.memory c v.pending side_now wants_posted (ap (λ (k : CoreState). k.want) (sym core))
+      (ap (λ (k : CoreState). k.write_backs) (sym core)) (ap (λ (k : CoreState). k.turn) (sym core))
       (chosen RequestChoice made)
 
-  pub writes_back : choice_of (is_ready b.memory v.number) v.pending ≡ BackChoice → (requests_now job y c ≡ false) × ((line : ℕ) × (rest : List ℕ) × ((y.cores c).write_backs ≡ line ∷ rest))
-  writes_back made = choice_backs job y b.memory c v.pending side_now wants_posted (ap (λ (k : CoreState). k.want) (sym core)) (ap (λ (k : CoreState). k.write_backs) (sym core)) (ap (λ (k : CoreState). k.turn) (sym core))
+  pub writes_back : choice_of (is_ready b.memory v.number) v.pending ≡ BackChoice
+      → (requests_now job y c ≡ false) × ((line : ℕ) × (rest : List ℕ) × ((y.cores c).write_backs ≡ line ∷ rest))
+  writes_back made = choice_backs job y b.memory c v.pending side_now wants_posted (ap (λ (k : CoreState). k.want) (sym core))
+      (ap (λ (k : CoreState). k.write_backs) (sym core)) (ap (λ (k : CoreState). k.turn) (sym core))
       (chosen BackChoice made)
 
   pub idles : choice_of (is_ready b.memory v.number) v.pending ≡ IdleChoice → (requests_now job y c ≡ false) × ((y.cores c).write_backs ≡ [])
-  idles made = choice_idles job y b.memory c v.pending side_now wants_posted (ap (λ (k : CoreState). k.want) (sym core)) (ap (λ (k : CoreState). k.write_backs) (sym core)) (ap (λ (k : CoreState). k.turn) (sym core))
+  idles made = choice_idles job y b.memory c v.pending side_now wants_posted (ap (λ (k : CoreState). k.want) (sym core))
+      (ap (λ (k : CoreState). k.write_backs) (sym core)) (ap (λ (k : CoreState). k.turn) (sym core))
       (chosen IdleChoice made)
 
   -- ---- the next boundary
 
-  next_part : (action : Action) (w : State) → action_of job y c ≡ action → IsHearing job c (after_action y c action) w → w.slot ≡ v.slot → w.retired ≤ v.retired + 1
-      → HasRows job (slot + 1) c w → IsPart job (slot + 1) c (stepped w)
-  next_part action w acted h same retired rows = record {
+  next_part : (action : Action) (w : State) → action_of job y c ≡ action → IsCoreIn job c (after_action y c action) w → w.slot ≡ v.slot
+      → IsTouched (touches_by c (action_touch y c action)) v w → HasRows job (slot + 1) c w → IsPart job (slot + 1) c (stepped w)
+  next_part action w acted h same touched rows = record {
     in_slot = record {
       stands = stands_stepped job c (context_of (machine_at job (slot + 1)) c) w
           (subst (λ (x : Context). StandsFor job c x w) (sym (side.next_context job slot c c action own acted)) h.stands);
@@ -147,7 +160,10 @@ module _ (job : JobValue) (slot c : ℕ) (v : State) (b : BusSide) (p : IsPartAf
       rows = record { rows = rows.rows; few = rows.few; room = rows.room };
     };
     fresh = refl;
-    retired = (let few = p.retired in let next = next_retired slot job.shape.quantum in omega arith);
+    touches = ended_touches job (touches_before job slot c) (touches_by c (action_touch y c action)) (own_touches job (slot + 1) c)
+        ((slot + 1) * job.shape.quantum) v w
+        (touches_after job slot c is below ∙ ap (λ (ts : List Touch). touches_before job slot c ++ ts)
+        (acted_own job slot c action own acted)) touched p.touches;
   }
 
   -- ---- nothing is done
@@ -156,7 +172,7 @@ module _ (job : JobValue) (slot c : ℕ) (v : State) (b : BusSide) (p : IsPartAf
   unfolding after_action
   acted_idle waits none = let acted = action_idles job y c waits none in record {
     what = sym (side.idle_record job slot c b is q p.more own waits none);
-    core = next_part Idle v acted hears refl (omega arith) (rows_stay job slot c v v own p.in_slot.rows Idle acted refl refl);
+    core = next_part Idle v acted core_in refl (touched_none v v refl refl refl refl) (rows_stay job slot c v v own p.in_slot.rows Idle acted refl refl);
     bus = side.idle_side job slot c b is q p.more own waits none;
   }
 
@@ -168,7 +184,7 @@ module _ (job : JobValue) (slot c : ℕ) (v : State) (b : BusSide) (p : IsPartAf
         let there : mode_of line (held_of v.cache.lines) ≡ Some Modified = ap (λ (k : CoreState). mode_of line k.held) (sym core) ∙ owned in absurd cc
 
     size : length (words_of line v.cache.lines) ≡ job.shape.line_words
-    size = hears.stands.carries.agree.sizes line held
+    size = core_in.stands.carries.agree.sizes line held
 
     pub can_back : CanBack line v b.memory
     can_back = record {
@@ -181,30 +197,33 @@ module _ (job : JobValue) (slot c : ℕ) (v : State) (b : BusSide) (p : IsPartAf
     lists_once = (subst (λ (backs : List ℕ). ListsEachOnce backs) (backs_core (line ∷ lines) first) (whole.fine c).back_once).0
 
     writable : IsWritable job y c line lines v
-    writable = record { hears = hears; first = first; lists = lists_once; held = held }
+    writable = record { core_in = core_in; first = first; lists = lists_once; held = held }
 
     keeps_line_is : keeps line v ≡ keeps_line y c line
     keeps_line_is = keeps_is job y c line lines v writable ∙ sym (side.first_kept job slot c b is q p.more own line lines (backs_core (line ∷ lines) first))
 
     backable : IsBackable job y c line (words_of line v.cache.lines)
     backable = side.backable job slot c b is q p.more own line lines (words_of line v.cache.lines) (backs_core (line ∷ lines) first)
-        (let within = hears.stands.carries.agree.within line held in let bytes = hears.stands.carries.bytes in omega arith) size
-        (λ place short. hears.stands.carries.agree.words line place short held)
+        (let within = core_in.stands.carries.agree.within line held in let bytes = core_in.stands.carries.bytes in omega arith) size
+        (λ place short. core_in.stands.carries.agree.words line place short held)
 
     acts_back : requests_now job y c ≡ false → action_of job y c ≡ Back line (keeps line v)
     acts_back waits = action_backs job y c line lines waits (backs_core (line ∷ lines) first) ∙ ap (Back line) (sym keeps_line_is)
 
     back_part : requests_now job y c ≡ false → IsPart job (slot + 1) c (stepped (backed line lines v))
     unfolding after_action
-    back_part waits = next_part (Back line (keeps line v)) (backed line lines v) (acts_back waits) (back_backed job y c line lines v writable) refl (omega arith)
+    back_part waits = next_part (Back line (keeps line v)) (backed line lines v) (acts_back waits) (back_backed job y c line lines v writable) refl
+        (touched_none v (backed line lines v) refl refl refl (still_standing (clear_victim line) v.pending.want))
         (rows_stay job slot c v (backed line lines v) own p.in_slot.rows (Back line (keeps line v)) (acts_back waits) refl refl)
 
-    pub acted_back : (action : Action) (w : State) (after : BusSide) → requests_now job y c ≡ false → IsBacked line lines v b action w after → IsActed job slot c action (stepped w) after
+    pub acted_back : (action : Action) (w : State) (after : BusSide) → requests_now job y c ≡ false → IsBacked line lines v b action w after
+        → IsActed job slot c action (stepped w) after
     acted_back action w after waits d = record {
       what = d.what ∙ ap (Back line) keeps_line_is ∙ sym (side.back_record job slot c b is q p.more own line lines waits (backs_core (line ∷ lines) first));
       core = subst (λ (u : State). IsPart job (slot + 1) c (stepped u)) (sym d.core) (back_part waits);
       bus = subst (IsBusPart job (slot + 1)) (sym d.side)
-          (side.back_side job slot c b is q p.more own line lines (words_of line v.cache.lines) (keeps line v) waits (backs_core (line ∷ lines) first) keeps_line_is backable);
+          (side.back_side job slot c b is q p.more own line lines (words_of line v.cache.lines) (keeps line v) waits
+          (backs_core (line ∷ lines) first) keeps_line_is backable);
     }
 
   -- ---- a request
@@ -218,7 +237,8 @@ module _ (job : JobValue) (slot c : ℕ) (v : State) (b : BusSide) (p : IsPartAf
 
     extent : 4 * ((want.line + 1) * job.shape.line_words) ≤ length y.memory
     extent = let bytes = side.extent_now job slot c b is q p.more own in
-        let within : IsLine job.shape want.line = subst (λ (g : Geometry). IsLine g want.line) side_now.shape (line_within job y b.memory want.line side_now (asked_below job y b.memory want is side_now asked_want)) in
+        let within : IsLine job.shape want.line = subst (λ (g : Geometry). IsLine g want.line) side_now.shape
+        (line_within job y b.memory want.line side_now (asked_below job y b.memory want is side_now asked_want)) in
         let less = line_extent want.line job.shape.line_words job.shape.memory within in omega arith
 
     reads : owner_of y job.shape.cores want.line ≡ None → AreWords job.shape.line_words y.memory want.line (line_in b.memory want.line)
@@ -228,10 +248,11 @@ module _ (job : JobValue) (slot c : ℕ) (v : State) (b : BusSide) (p : IsPartAf
       within = extent;
     }
 
-    needed : want.victim ≡ None → has_line want.line v.pending.write_backs ≡ false → length v.pending.write_backs < job.shape.cores → IsNeeded job slot c y want (line_in b.memory want.line) v
+    needed : want.victim ≡ None → has_line want.line v.pending.write_backs ≡ false → length v.pending.write_backs < job.shape.cores
+        → IsNeeded job slot c y want (line_in b.memory want.line) v
     needed free absent room = record {
       whole = whole;
-      hears = hears;
+      core_in = core_in;
       own = own;
       more = p.more;
       wants = mine;
@@ -241,8 +262,16 @@ module _ (job : JobValue) (slot c : ℕ) (v : State) (b : BusSide) (p : IsPartAf
       unlisted = absent;
       backs = room;
       rows = p.in_slot.rows;
-      retired = p.retired;
+      touched = p.touches;
     }
+
+    -- once it is served the core has its access
+    want_touched : (w : State) → covered want.access (met_among v.shape want.access (line_in b.memory want.line)) ≡ met_bytes want.access y.memory
+        → w.keeps ≡ v.keeps
+        → w.touches ≡ (with_touch (touch_on want.access (met_among v.shape want.access (line_in b.memory want.line)) v) v).touches → w.retired ≡ v.retired + 1
+        → w.pending.want ≡ None
+        → IsTouched (touches_by c (want_touch y c (y.cores c).want)) v w
+    want_touched w met = served_touched y c want (met_among v.shape want.access (line_in b.memory want.line)) v w mine wants here number met
 
     -- ---- it was posted
 
@@ -256,7 +285,7 @@ module _ (job : JobValue) (slot c : ℕ) (v : State) (b : BusSide) (p : IsPartAf
       servable : IsServable job (slot + 1) y c want (line_in b.memory want.line) v
       servable = record {
         whole = whole;
-        hears = hears;
+        core_in = core_in;
         wants = mine;
         posted = posted;
         asked = asked_want;
@@ -267,8 +296,8 @@ module _ (job : JobValue) (slot c : ℕ) (v : State) (b : BusSide) (p : IsPartAf
       filled_whole : IsWhole job.shape (slot + 1) (fill y c).posted (fill y c).cores
       filled_whole = fill_whole job.shape (slot + 1) y c want whole below mine posted (nobody_at_all job.shape (slot + 1) y want.line whole nobody)
 
-      filled_hears : IsHearing job c (fill y c) (served want (line_in b.memory want.line) at (behind_in want.line (removed c y.posted)) v)
-      filled_hears = fill_served job (slot + 1) y c want (line_in b.memory want.line) v servable at
+      filled_core_in : IsCoreIn job c (fill y c) (served want (line_in b.memory want.line) at (behind_in want.line (removed c y.posted)) v)
+      filled_core_in = fill_served job (slot + 1) y c want (line_in b.memory want.line) v servable at
 
       fill_free : want.victim ≡ None
       fill_free = no_victim job.shape (slot + 1) (y.cores c).held (y.cores c).write_backs (y.cores c).status want ((whole.fine c).want_fine want mine) posted
@@ -278,7 +307,8 @@ module _ (job : JobValue) (slot c : ℕ) (v : State) (b : BusSide) (p : IsPartAf
         can = subst (λ (d : ℕ). CanFill d want.line b.memory) (sym number) (side.can_fill job slot c b is q p.more own want asks mine posted);
         serve = serves job slot c y want (line_in b.memory want.line) v
             (needed fill_free (wanted_unlisted job (slot + 1) y c want (line_in b.memory want.line) v servable)
-            (backs_room job (slot + 1) c (fill y c) want (line_in b.memory want.line) at (behind_in want.line (removed c y.posted)) v filled_whole below filled_hears));
+            (backs_room job (slot + 1) c (fill y c) want (line_in b.memory want.line) at
+            (behind_in want.line (removed c y.posted)) v filled_whole below filled_core_in));
       }
 
       acts_fill : action_of job y c ≡ Fill want.line
@@ -289,11 +319,13 @@ module _ (job : JobValue) (slot c : ℕ) (v : State) (b : BusSide) (p : IsPartAf
 
       fill_part : IsPart job (slot + 1) c (stepped (served want (line_in b.memory want.line) at (behind_in want.line (removed c y.posted)) v))
       unfolding after_action
-      fill_part = next_part (Fill want.line) filled_state acts_fill filled_hears refl (omega arith)
+      fill_part = next_part (Fill want.line) filled_state acts_fill filled_core_in refl
+          (want_touched filled_state (met_now job (slot + 1) y c want (line_in b.memory want.line) v servable) refl refl refl refl)
           (rows_grow job slot c v filled_state own p.in_slot.rows (Fill want.line) (row_for want at v) acts_fill
           (served_row y c want at v number here mine (ap (λ (o : Option ℕ). unwrap_or o y.slot) post_is)) number refl)
 
-      state_is : (w : State) → w ≡ served want (line_in b.memory want.line) at (behind_in want.line (removed v.number b.memory.posted)) v → w ≡ served want (line_in b.memory want.line) at (behind_in want.line (removed c y.posted)) v
+      state_is : (w : State) → w ≡ served want (line_in b.memory want.line) at (behind_in want.line (removed v.number b.memory.posted)) v
+          → w ≡ served want (line_in b.memory want.line) at (behind_in want.line (removed c y.posted)) v
       state_is w done = done
           ∙ ap (λ (d : ℕ). served want (line_in b.memory want.line) at (behind_in want.line (removed d b.memory.posted)) v) number
           ∙ ap (λ (rs : List Request). served want (line_in b.memory want.line) at (behind_in want.line (removed c rs)) v) side_now.posted
@@ -302,7 +334,8 @@ module _ (job : JobValue) (slot c : ℕ) (v : State) (b : BusSide) (p : IsPartAf
       acted_fill action w after d = record {
         what = d.what ∙ sym (side.fill_record job slot c b is q p.more own want asks mine posted);
         core = subst (λ (u : State). IsPart job (slot + 1) c (stepped u)) (sym (state_is w d.core)) fill_part;
-        bus = subst (IsBusPart job (slot + 1)) (sym (d.side ∙ ap (λ (e : ℕ). side_filled e want.line b) number)) (side.fill_side job slot c b is q p.more own want asks mine posted);
+        bus = subst (IsBusPart job (slot + 1)) (sym (d.side ∙ ap (λ (e : ℕ). side_filled e want.line b) number))
+            (side.fill_side job slot c b is q p.more own want asks mine posted);
       }
 
     -- ---- it is posted now
@@ -311,7 +344,7 @@ module _ (job : JobValue) (slot c : ℕ) (v : State) (b : BusSide) (p : IsPartAf
       postable : IsPostable job y c want v
       postable = record {
         whole = whole_now;
-        hears = hears;
+        core_in = core_in;
         now = here;
         below = below;
         wants = mine;
@@ -327,7 +360,8 @@ module _ (job : JobValue) (slot c : ℕ) (v : State) (b : BusSide) (p : IsPartAf
       name_is = ap (λ (k : CoreState). name_of want.kind (mode_of want.line k.held)) (sym core)
 
       ready_is : fills_at_once want b.memory v ≡ is_ready (posted_in c want.line (name_of want.kind (mode_in y c want.line)) b.memory) c
-      ready_is = ap (λ (d : ℕ). is_ready (posted_in d want.line (name_for want v) b.memory) d) number ∙ ap (λ (n : Name). is_ready (posted_in c want.line n b.memory) c) name_is
+      ready_is = ap (λ (d : ℕ). is_ready (posted_in d want.line (name_for want v) b.memory) d) number
+          ∙ ap (λ (n : Name). is_ready (posted_in c want.line n b.memory) c) name_is
 
       request_none : request_of c y.posted ≡ None
       request_none = no_request job y b.memory c want None side_now wants_posted mine unposted
@@ -337,24 +371,27 @@ module _ (job : JobValue) (slot c : ℕ) (v : State) (b : BusSide) (p : IsPartAf
         is_now = sym (ready_posted job y b.memory c want (mode_in y c want.line) side_now wants_posted mine unposted) ∙ sym ready_is ∙ ready
 
         nobody_then : nobody_owns (post y c want.kind want.line) job.shape.cores want.line ≡ true
-        nobody_then = second_is (is_core c (first_of want.line (post y c want.kind want.line).posted)) (nobody_owns (post y c want.kind want.line) job.shape.cores want.line) is_now
+        nobody_then = second_is (is_core c (first_of want.line (post y c want.kind want.line).posted))
+            (nobody_owns (post y c want.kind want.line) job.shape.cores want.line) is_now
 
         first_then : first_of want.line (post y c want.kind want.line).posted ≡ Some c
-        first_then = first_is c (first_of want.line (post y c want.kind want.line).posted) (nobody_owns (post y c want.kind want.line) job.shape.cores want.line) is_now
+        first_then = first_is c (first_of want.line (post y c want.kind want.line).posted)
+            (nobody_owns (post y c want.kind want.line) job.shape.cores want.line) is_now
 
         post_reads : AreWords job.shape.line_words y.memory want.line (line_in b.memory want.line)
         post_reads = reads (side.post_unowned job slot c b is q p.more own want mine unposted (sym ready_is ∙ ready))
 
-      served_hears : fills_at_once want b.memory v ≡ true → (at : ℕ)
-          → IsHearing job c (fill (post y c want.kind want.line) c) (served want (line_in b.memory want.line) at Nobody (asked v))
-      served_hears ready at = post_served job y c want v postable (line_in b.memory want.line) (nobody_then ready) (post_reads ready) at (first_then ready) request_none
+      served_core_in : fills_at_once want b.memory v ≡ true → (at : ℕ)
+          → IsCoreIn job c (fill (post y c want.kind want.line) c) (served want (line_in b.memory want.line) at Nobody (asked v))
+      served_core_in ready at = post_served job y c want v postable (line_in b.memory want.line) (nobody_then ready) (post_reads ready) at
+          (first_then ready) request_none
 
       post_free : want.victim ≡ None
       post_free = free_now job y c want mine asks unposted
 
       post_room : fills_at_once want b.memory v ≡ true → length v.pending.write_backs < job.shape.cores
       post_room ready = backs_room job (y.slot + 1) c (fill (post y c want.kind want.line) c) want (line_in b.memory want.line) 0 Nobody (asked v)
-          (post_fill_whole job y c want whole_now below mine unposted post_free (nobody_then ready)) below (served_hears ready 0)
+          (post_fill_whole job y c want whole_now below mine unposted post_free (nobody_then ready)) below (served_core_in ready 0)
 
       can_post_for : CanPostFor want v b.memory
       can_post_for = record {
@@ -364,7 +401,8 @@ module _ (job : JobValue) (slot c : ℕ) (v : State) (b : BusSide) (p : IsPartAf
 
       -- the action by whether the request is filled at once
       abbrev action_by : Bool → Action
-      action_by filled = if filled then PostFill (name_of want.kind (mode_in y c want.line)) want.line else Post (name_of want.kind (mode_in y c want.line)) want.line
+      action_by filled = if filled then PostFill (name_of want.kind (mode_in y c want.line)) want.line else Post
+          (name_of want.kind (mode_in y c want.line)) want.line
 
       acts_by : (filled : Bool) → fills_at_once want b.memory v ≡ filled → action_of job y c ≡ action_by filled
       acts_by filled by = action_posts job y c b.memory want side_now wants_posted asks mine unposted ∙ ap action_by (sym ready_is ∙ by)
@@ -376,18 +414,22 @@ module _ (job : JobValue) (slot c : ℕ) (v : State) (b : BusSide) (p : IsPartAf
       unfolding after_action
       filled_part ready = let w : State = served want (line_in b.memory want.line) v.slot Nobody (asked v) in
           next_part (PostFill name want.line) w (acts_by true ready)
-          (subst (λ (kind : Kind). IsHearing job c (fill (post y c kind want.line) c) (served want (line_in b.memory want.line) v.slot Nobody (asked v))) (sym kind_is) (served_hears ready v.slot)) refl (omega arith)
+          (subst (λ (kind : Kind). IsCoreIn job c (fill (post y c kind want.line) c) (served want (line_in b.memory want.line) v.slot Nobody (asked v)))
+          (sym kind_is) (served_core_in ready v.slot)) refl
+          (want_touched w (met_then job y c want v postable (line_in b.memory want.line) (nobody_then ready) (post_reads ready)) refl refl refl refl)
           (rows_grow job slot c v w own p.in_slot.rows (PostFill name want.line) (row_for want v.slot v) (acts_by true ready)
           (served_row y c want v.slot v number here mine (ap (λ (o : Option ℕ). unwrap_or o y.slot) unposted ∙ sym here)) number refl)
 
       queued_part : fills_at_once want b.memory v ≡ false → IsPart job (slot + 1) c (stepped (asked v))
       unfolding after_action
       queued_part waits = next_part (Post name want.line) (asked v) (acts_by false waits)
-          (subst (λ (kind : Kind). IsHearing job c (post y c kind want.line) (asked v)) (sym kind_is) (post_asked job y c want v postable)) refl (omega arith)
+          (subst (λ (kind : Kind). IsCoreIn job c (post y c kind want.line) (asked v)) (sym kind_is) (post_asked job y c want v postable)) refl
+          (touched_none v (asked v) refl refl refl (still_standing (post_at v.slot) v.pending.want))
           (rows_stay job slot c v (asked v) own p.in_slot.rows (Post name want.line) (acts_by false waits) refl refl)
 
       post_part : IsPart job (slot + 1) c (stepped (posted_state want b.memory v))
-      post_part = by_test (λ (w : State). IsPart job (slot + 1) c (stepped w)) (fills_at_once want b.memory v) (served want (line_in b.memory want.line) v.slot Nobody (asked v)) (asked v) filled_part queued_part
+      post_part = by_test (λ (w : State). IsPart job (slot + 1) c (stepped w)) (fills_at_once want b.memory v)
+          (served want (line_in b.memory want.line) v.slot Nobody (asked v)) (asked v) filled_part queued_part
 
       acted_post : (action : Action) (w : State) (after : BusSide) → IsPosted want v b action w after → IsActed job slot c action (stepped w) after
       acted_post action w after d = record {
@@ -410,11 +452,13 @@ module _ (job : JobValue) (slot c : ℕ) (v : State) (b : BusSide) (p : IsPartAf
     pub can_request : CanRequest want.post want v b.memory
     can_request = can_request_by want.post refl
 
-    acted_by : (o : Option ℕ) → want.post ≡ o → (action : Action) (w : State) (after : BusSide) → IsRequested o want v b action w after → IsActed job slot c action (stepped w) after
+    acted_by : (o : Option ℕ) → want.post ≡ o → (action : Action) (w : State) (after : BusSide) → IsRequested o want v b action w after
+        → IsActed job slot c action (stepped w) after
     acted_by None by action w after d = acted_post by action w after d
     acted_by (Some at) by action w after d = acted_fill at by action w after d
 
-    pub acted_request : (action : Action) (w : State) (after : BusSide) → IsRequested want.post want v b action w after → IsActed job slot c action (stepped w) after
+    pub acted_request : (action : Action) (w : State) (after : BusSide) → IsRequested want.post want v b action w after
+        → IsActed job slot c action (stepped w) after
     acted_request action w after d = acted_by want.post refl action w after d
 
   pub wants_some : requests_now job y c ≡ true → (want : Want) × (v.pending.want ≡ Some want)
@@ -431,32 +475,74 @@ module _ (job : JobValue) (slot c : ℕ) (v : State) (b : BusSide) (p : IsPartAf
       acted_request some.0 some.1 asks action w after (done some.0 some.1)
 
   pub back_acted : choice_of (is_ready b.memory v.number) v.pending ≡ BackChoice → (action : Action) (w : State) (after : BusSide)
-      → ((line : ℕ) (lines : List ℕ) → v.pending.write_backs ≡ line ∷ lines → IsBacked line lines v b action w after) → IsActed job slot c action (stepped w) after
+      → ((line : ℕ) (lines : List ℕ) → v.pending.write_backs ≡ line ∷ lines → IsBacked line lines v b action w after)
+      → IsActed job slot c action (stepped w) after
   back_acted made action w after done = let chosen = writes_back made in let line : ℕ = chosen.1.0 in let lines : List ℕ = chosen.1.1 in
       let first : v.pending.write_backs ≡ line ∷ lines = ap (λ (k : CoreState). k.write_backs) (sym core) ∙ chosen.1.2 in
       acted_back line lines first action w after chosen.0 (done line lines first)
 
-  -- ---- what the bus keeps stays
+-- ---- what a core does of what it chose
 
-  pub request_keeps : choice_of (is_ready b.memory v.number) v.pending ≡ RequestChoice → (action : Action) (w : State) (after : BusSide)
-      → ((want : Want) → v.pending.want ≡ Some want → IsRequested want.post want v b action w after) → after.keeps ≡ b.keeps
-  request_keeps made action w after done = let some = wants_some (requests made) in requested_keeps some.0.post some.0 v b action w after (done some.0 some.1)
+-- the core does it, as the code has it
+abbrev pub Does : Choice → State → BusSide → Action → State → BusSide → Type 0
+Does IdleChoice v b action w after = (action ≡ Idle) × (w ≡ v) × (after ≡ side_idle b)
+Does RequestChoice v b action w after = (want : Want) → v.pending.want ≡ Some want → IsRequested want.post want v b action w after
+Does BackChoice v b action w after = (line : ℕ) (lines : List ℕ) → v.pending.write_backs ≡ line ∷ lines → IsBacked line lines v b action w after
 
-  pub back_keeps : choice_of (is_ready b.memory v.number) v.pending ≡ BackChoice → (action : Action) (w : State) (after : BusSide)
-      → ((line : ℕ) (lines : List ℕ) → v.pending.write_backs ≡ line ∷ lines → IsBacked line lines v b action w after) → after.keeps ≡ b.keeps
-  back_keeps made action w after done = let chosen = writes_back made in
-      let d = done chosen.1.0 chosen.1.1 (ap (λ (k : CoreState). k.write_backs) (sym core) ∙ chosen.1.2) in
-      ap (λ (s : BusSide). s.keeps) d.side
+-- then it acted, for each job of which it can be, and what core and bus keep stays
+pub record IsDone (v : State) (b : BusSide) (action : Action) (w : State) (after : BusSide) : Type 0 where
+  pub acted : (job : JobValue) (slot c : ℕ) → IsPartAfter job slot c v → IsBusPart job slot b → IsActed job slot c action (stepped w) after
+  pub keeps : w.keeps ≡ v.keeps
+  pub bus_keeps : after.keeps ≡ b.keeps
 
 -- an action, a state and a bus by other names
-pub acted_as : (job : JobValue) (slot c : ℕ) (action a : Action) (w u : State) (after m : BusSide) → action ≡ a → w ≡ u → after ≡ m
+renamed_acted : (job : JobValue) (slot c : ℕ) (action a : Action) (w u : State) (after m : BusSide) → action ≡ a → w ≡ u → after ≡ m
     → IsActed job slot c a (stepped u) m → IsActed job slot c action (stepped w) after
-acted_as job slot c action a w u after m what core bus d = record {
+renamed_acted job slot c action a w u after m what core bus d = record {
   what = what ∙ d.what;
   core = subst (λ (x : State). IsPart job (slot + 1) c (stepped x)) (sym core) d.core;
   bus = subst (IsBusPart job (slot + 1)) (sym bus) d.bus;
 }
 
+module _ (v : State) (b : BusSide) (can : CanAct v b) (action : Action) (w : State) (after : BusSide) where
+  abbrev Chose : Choice → Type 0
+  Chose choice = choice_of (is_ready b.memory v.number) v.pending ≡ choice
+
+  wanted : Chose RequestChoice → (want : Want) × (v.pending.want ≡ Some want)
+  wanted made = wants_some can.job v.slot can.core v b can.part can.bus can.own (requests can.job v.slot can.core v b can.part can.bus can.own made)
+
+  request_keeps : Chose RequestChoice → Does RequestChoice v b action w after → (w.keeps ≡ v.keeps) × (after.keeps ≡ b.keeps)
+  request_keeps made done = let some = wanted made in requested_keeps some.0.post some.0 v b action w after (done some.0 some.1)
+
+  listed : Chose BackChoice → (line : ℕ) × (lines : List ℕ) × (v.pending.write_backs ≡ line ∷ lines)
+  listed made = let some = (writes_back can.job v.slot can.core v b can.part can.bus can.own made).1 in
+      (some.0, some.1, ap (λ (k : CoreState). k.write_backs) (sym (core can.job v.slot can.core v b can.part can.bus can.own)) ∙ some.2)
+
+  pub done : (choice : Choice) → Chose choice → Does choice v b action w after → IsDone v b action w after
+  done IdleChoice made does = record {
+    acted = λ job slot c p q. renamed_acted job slot c action Idle w v after (side_idle b) does.0 does.1 does.2
+        (idle_acted job slot c v b p q (owner_is job slot c v b can p) made);
+    keeps = ap (λ (u : State). u.keeps) does.1;
+    bus_keeps = ap (λ (s : BusSide). s.keeps) does.2;
+  }
+  done RequestChoice made does = record {
+    acted = λ job slot c p q. request_acted job slot c v b p q (owner_is job slot c v b can p) made action w after does;
+    keeps = (request_keeps made does).0;
+    bus_keeps = (request_keeps made does).1;
+  }
+  done BackChoice made does = let some = listed made in let backs = does some.0 some.1 some.2 in record {
+    acted = λ job slot c p q. back_acted job slot c v b p q (owner_is job slot c v b can p) made action w after does;
+    keeps = ap (λ (u : State). u.keeps) backs.core;
+    bus_keeps = ap (λ (s : BusSide). s.keeps) backs.side;
+  }
+
+-- an action, a state and a bus by other names
+pub does_as : (choice : Choice) (v : State) (b : BusSide) (action a : Action) (w u : State) (after m : BusSide) → action ≡ a → w ≡ u → after ≡ m
+    → Does choice v b a u m → Does choice v b action w after
+does_as choice v b action a w u after m what core bus does = subst (λ (x : Action). Does choice v b x w after) (sym what)
+    (subst (λ (x : State). Does choice v b a x after) (sym core) (subst (λ (x : BusSide). Does choice v b a u x) (sym bus) does))
+
 -- the next slot is one of the job
-pub slot_fits : (job : JobValue) (slot c : ℕ) (action : Action) (w : State) (b : BusSide) → IsActed job slot c action (stepped w) b → w.slot + 1 < 2 ^ 32
-slot_fits job slot c action w b a = let now = a.core.in_slot.now in let within = a.core.in_slot.within in let most = a.core.in_slot.stands.carries.within.shape.slots in omega arith
+pub slot_fits : (v : State) (b : BusSide) (action : Action) (w : State) (after : BusSide) → CanAct v b → IsDone v b action w after → w.slot + 1 < 2 ^ 32
+slot_fits v b action w after can d = let a = d.acted can.job v.slot can.core can.part can.bus in
+    let now = a.core.in_slot.now in let within = a.core.in_slot.within in let most = a.core.in_slot.stands.carries.within.shape.slots in omega arith

@@ -13,12 +13,13 @@ use Rattle.pmsi_model.specs.Words.{number_of, bytes_of}
 use Rattle.pmsi_model.specs.Access.{access_bytes, width_of}
 use Rattle.pmsi_model.specs.Parts.{word_at}
 use Rattle.pmsi_model.specs.Phase.{bytes_from, met_bytes, memory_after, with_bytes}
+use Rattle.pmsi_model.proofs.Numbers.{next_multiple}
 use Rattle.pmsi_model.proofs.Bytes.{length-bytes_from, get_or-bytes_from, bytes_from_below, length-with_bytes, get_or-with_bytes_before, get_or-with_bytes_past, get_or-with_bytes_at, bytes_of-number_of}
-use Rattle.coherence_laws.proofs.ApartBytes.{lane_fits, access_size}
+use Rattle.pmsi_model.proofs.Accesses.{lane_fits, access_size}
 use Rattle.cache_array.specs.Cache.{word_place}
 use Rattle.rv_exec.specs.Accesses.{bytes_after, covered}
 use Rattle.core_unit.specs.Copies.{AreCopies}
-use Rattle.core_unit.proofs.Words.{length-spliced, mul_suc, spliced_after, spliced_at, spliced_before}
+use Rattle.core_unit.proofs.Words.{length-spliced, spliced_after, spliced_at, spliced_before}
 
 -- ---- an access and the aligned word that holds its address
 
@@ -147,19 +148,9 @@ module _ (count : ℕ) (some : 0 < count) where
       ((i : ℕ) → 4 * i + 4 ≤ length memory → word_at memory' i ≡ (if i == line * count + place then operand else word_at memory i)) →
       AreCopies count memory mode copy → AreCopies count memory' mode' copy'
   copies_written memory memory' mode mode' copy copy' line place operand within owned size modes copies new g = record {
-    words = λ l at below held. let h : mode l ≢ None = grind (arith, modes l) in let w = g.within l h in let m = mul_suc l count in
+    words = λ l at below held. let h : mode l ≢ None = grind (arith, modes l) in let w = g.within l h in let m = next_multiple l count in
         subst (λ (c : List ℕ). get_or c at 0 ≡ word_at memory' (l * count + at)) (sym (copies l))
         (written_at copy memory memory' line place l at operand within below (g.sizes line (grind arith)) (g.words l at below h) (new (l * count + at) (omega arith)));
     sizes = λ l held. grind (arith, modes l, copies l, g.sizes l, g.sizes line, length-set (copy line) place operand);
     within = λ l held. let w = g.within l (grind (arith, modes l)) in omega arith;
-  }
-
-  -- a line is dropped
-  pub copies_dropped : (memory : List ℕ) (mode mode' : ℕ → Option Mode) (copy copy' : ℕ → List ℕ) (line : ℕ) →
-      ((l : ℕ) → mode' l ≡ (if l == line then None else mode l)) → ((l : ℕ) → l ≢ line → copy' l ≡ copy l) →
-      AreCopies count memory mode copy → AreCopies count memory mode' copy'
-  copies_dropped memory mode mode' copy copy' line modes copies g = record {
-    words = λ l at below held. grind (arith, modes l, copies l, g.words l at below);
-    sizes = λ l held. grind (arith, modes l, copies l, g.sizes l);
-    within = λ l held. grind (arith, modes l, g.within l);
   }

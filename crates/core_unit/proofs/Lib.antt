@@ -1,25 +1,30 @@
-pub mod Words
-pub mod Carried
-pub mod NotesClaims
-pub mod NotesCopies
-pub mod Notes
-pub mod Copies
-pub mod Steps
-pub mod Performs
-pub mod Evictions
-pub mod Safe
-pub mod Quanta
-pub mod Opens
-pub mod ActsCopies
-pub mod SidesOwners
-pub mod Sides
-pub mod SidesReady
-pub mod ActsFills
-pub mod SidesNext
-pub mod NotesSlots
-pub mod ActsPosts
-pub mod ActsBacks
-pub mod ActsRows
-pub mod ActsNeeds
-pub mod ActsSlots
-pub mod TestJobs
+mod Words
+mod Carried
+mod Copies
+mod Steps
+mod SnoopsClaims
+mod SnoopsCopies
+mod Snoops
+mod Touches
+mod Performs
+mod Evictions
+mod Safe
+mod Quanta
+mod Opens
+mod Openings
+mod Alike
+mod ActsCopies
+mod SidesOwners
+mod Sides
+mod SidesReady
+mod ActsFills
+mod SidesNext
+mod ActsTouches
+mod SnoopsSlots
+mod ActsPosts
+mod ActsBacks
+mod ActsRows
+mod ActsNeeds
+mod ActsSlots
+mod TestJobs
+pub mod Exports

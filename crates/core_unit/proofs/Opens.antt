@@ -1,49 +1,88 @@
 -- A core at its opening.
-use Rattle.std.proofs.Common.{◌≡◌, ℕ, ◌+◌, ◌/◌, ◌<◌, List, [], None, false, refl, ap, ◌∙◌, sym, subst, arith}
+use Rattle.std.proofs.Common.{◌≡◌, ℕ, ◌*◌, ◌<◌, ◌≤◌, List, [], Bool, None, true, false, if◌then◌else◌, refl, ap, ◌∙◌, sym, subst, arith}
 use Rattle.pmsi_model.specs.declared.job.Geometry.{Geometry}
+use Rattle.pmsi_model.specs.declared.Row.{Row}
 use Rattle.pmsi_model.specs.declared.Status.TheVariants.{Running}
+use Rattle.pmsi_model.specs.declared.Touch.{Touch}
 use Rattle.pmsi_model.specs.declared.Turn.TheVariants.{Request as RequestTurn}
 use Rattle.pmsi_model.specs.Effect.{start_regs}
 use Rattle.pmsi_model.specs.Job.{JobValue, IsJob, text_of}
-use Rattle.pmsi_model.specs.Run.{machine_at, start_of}
+use Rattle.pmsi_model.specs.Slots.{SlotPlan, own_slots, plain_plan, plan_of}
+use Rattle.pmsi_model.specs.Run.{machine_at, start_of, touches_of}
 use Rattle.pmsi_model.specs.Rows.{rows_of}
 use Rattle.cache_array.specs.Cache.{CacheValue}
 use Rattle.pend_buffers.specs.Pending.{PendingValue}
 use Rattle.core_unit.specs.declared.state.State.{State}
-use Rattle.core_unit.specs.Rows.{RowsValue}
+use Rattle.core_unit.specs.Reserved.{Reserved}
 use Rattle.core_unit.specs.Parts.{IsPart}
 
+-- what a core is opened with
+pub record Parts : Type 0 where
+  pub plan : SlotPlan
+  pub text : List ℕ
+  pub regs : List ℕ
+  pub cache : CacheValue
+  pub pending : PendingValue
+  pub claimed : List ℕ
+  pub rows : Reserved Row
+  pub touches : Reserved Touch
+
 -- a state before the first slot, by its parts
-abbrev state_with : ℕ → Geometry → List ℕ → List ℕ → CacheValue → PendingValue → List ℕ → RowsValue → State
-state_with c shape text regs cache pending claimed rows = record {
+abbrev pub state_with : ℕ → Geometry → Bool → Parts → State
+state_with c shape keeps p = record {
   number = c;
   shape = shape;
-  text = text;
+  plan = p.plan;
+  text = p.text;
   slot = 0;
   phase_done = false;
-  regs = regs;
+  regs = p.regs;
   pc = 0;
   status = Running;
   retired = 0;
-  cache = cache;
-  pending = pending;
-  claimed = claimed;
-  rows = rows;
+  cache = p.cache;
+  pending = p.pending;
+  claimed = p.claimed;
+  rows = p.rows;
+  keeps = keeps;
+  touches = p.touches;
 }
 
-abbrev no_lines : Geometry → CacheValue
+abbrev pub no_lines : Geometry → CacheValue
 no_lines shape = record { shape = shape; lines = [] }
 
-abbrev nothing_pending : Geometry → PendingValue
+abbrev pub nothing_pending : Geometry → PendingValue
 nothing_pending shape = record { cores = shape.cores; want = None; write_backs = []; turn = RequestTurn }
 
-abbrev no_rows : Geometry → RowsValue
-no_rows shape = record { rows = []; room = shape.slots / shape.cores + 1 }
+-- an empty list with room for so many items
+abbrev pub room_for : (T : Type 0) → ℕ → Reserved T
+room_for T room = record { items = []; room = room }
 
-pub opened : (job : JobValue) (c : ℕ) (text : List ℕ) → IsJob job → c < job.shape.cores → text ≡ text_of job c →
-    IsPart job 0 c (state_with c job.shape text (start_regs c job.shape.cores) (no_lines job.shape) (nothing_pending job.shape) [] (no_rows job.shape))
-unfolding machine_at start_of rows_of
-opened job c text is below same = record {
+-- room is taken for all accesses that may come, where they are kept
+abbrev pub RoomFor : Geometry → Bool → ℕ → Type 0
+RoomFor shape keeps room = keeps ≡ true → shape.slots * shape.quantum ≤ room
+
+-- the parts of a core before its first slot
+abbrev pub parts_of : JobValue → ℕ → ℕ → ℕ → Parts
+parts_of job c rows touches = record {
+  plan = plan_of job;
+  text = text_of job c;
+  regs = start_regs c job.shape.cores;
+  cache = no_lines job.shape;
+  pending = nothing_pending job.shape;
+  claimed = [];
+  rows = room_for Row rows;
+  touches = room_for Touch touches;
+}
+
+no_touches : (keeps : Bool) → (let none : List Touch = [] in none) ≡ (if keeps then [] else [])
+no_touches true = refl
+no_touches false = refl
+
+opened : (job : JobValue) (c : ℕ) (keeps : Bool) (rows touches : ℕ) → IsJob job → c < job.shape.cores → own_slots (plan_of job) c job.shape.slots ≤ rows → RoomFor job.shape keeps touches →
+    IsPart job 0 c (state_with c job.shape keeps (parts_of job c rows touches))
+unfolding machine_at start_of rows_of touches_of
+opened job c keeps rows touches is below many room = record {
   in_slot = record {
     stands = record {
       carries = record {
@@ -51,9 +90,10 @@ opened job c text is below same = record {
         below = below;
         number = refl;
         shape = refl;
+        plan = refl;
         cache = refl;
         cores = refl;
-        text = same;
+        text = refl;
         bytes = is.start;
         small = is.bytes;
         agree = record {
@@ -69,21 +109,25 @@ opened job c text is below same = record {
     once = tt;
     now = refl;
     within = omega arith;
-    rows = record { rows = refl; few = omega arith; room = omega arith };
+    rows = record { rows = refl; few = omega arith; room = many };
   };
   fresh = refl;
-  retired = omega arith;
+  touches = record { touches = no_touches keeps; few = omega arith; room = room; retired = omega arith };
 }
 
 -- as the code opens a core
-pub opened_by : (job : JobValue) (c : ℕ) (shape : Geometry) (text regs : List ℕ) (cache : CacheValue) (pending : PendingValue) (claimed : List ℕ) (rows : RowsValue) → IsJob job → c < job.shape.cores → shape ≡ job.shape →
-    text ≡ text_of job c → regs ≡ start_regs c shape.cores → cache ≡ no_lines shape → pending ≡ nothing_pending shape → claimed ≡ [] → rows ≡ no_rows shape → IsPart job 0 c (state_with c shape text regs cache pending claimed rows)
-opened_by job c shape text regs cache pending claimed rows is below s t r m p n w =
-    let same : state_with c shape text regs cache pending claimed rows ≡ state_with c job.shape text (start_regs c job.shape.cores) (no_lines job.shape) (nothing_pending job.shape) [] (no_rows job.shape) =
-    ap (λ (x : List ℕ). state_with c shape text x cache pending claimed rows) r
-    ∙ ap (λ (x : CacheValue). state_with c shape text (start_regs c shape.cores) x pending claimed rows) m
-    ∙ ap (λ (x : PendingValue). state_with c shape text (start_regs c shape.cores) (no_lines shape) x claimed rows) p
-    ∙ ap (λ (x : List ℕ). state_with c shape text (start_regs c shape.cores) (no_lines shape) (nothing_pending shape) x rows) n
-    ∙ ap (λ (x : RowsValue). state_with c shape text (start_regs c shape.cores) (no_lines shape) (nothing_pending shape) [] x) w
-    ∙ ap (λ (g : Geometry). state_with c g text (start_regs c g.cores) (no_lines g) (nothing_pending g) [] (no_rows g)) s in
-    subst (IsPart job 0 c) (sym same) (opened job c text is below t)
+pub opened_by : (job : JobValue) (c rows touches : ℕ) (keeps : Bool) (shape : Geometry) (p : Parts) → IsJob job → c < job.shape.cores → shape ≡ job.shape →
+    p ≡ parts_of job c rows touches → rows ≡ own_slots p.plan c shape.slots → RoomFor shape keeps touches → IsPart job 0 c (state_with c shape keeps p)
+opened_by job c rows touches keeps shape p is below same parts counted room =
+    let all : rows ≡ own_slots (plan_of job) c job.shape.slots =
+    counted ∙ ap (λ (q : Parts). own_slots q.plan c shape.slots) parts ∙ ap (λ (g : Geometry). own_slots (plan_of job) c g.slots) same in
+    subst (IsPart job 0 c) (sym (ap (λ (g : Geometry). state_with c g keeps p) same ∙ ap (state_with c job.shape keeps) parts))
+    (opened job c keeps rows touches is below (omega arith) (subst (λ (g : Geometry). RoomFor g keeps touches) same room))
+
+-- the parts as the code makes them
+pub parts_by : (job : JobValue) (c rows touches : ℕ) (shape : Geometry) (plan : SlotPlan) (text regs : List ℕ) (cache : CacheValue) (pending : PendingValue) (claimed : List ℕ)
+    (served : Reserved Row) (done : Reserved Touch) → shape ≡ job.shape → plan ≡ plain_plan shape.cores → text ≡ text_of job c → regs ≡ start_regs c shape.cores
+    → cache ≡ no_lines shape → pending ≡ nothing_pending shape → claimed ≡ [] → served ≡ room_for Row rows → done ≡ room_for Touch touches
+    → (let p : Parts = record { plan = plan; text = text; regs = regs; cache = cache; pending = pending; claimed = claimed; rows = served; touches = done } in p)
+    ≡ parts_of job c rows touches
+parts_by job c rows touches shape plan text regs cache pending claimed served done s l t r m n k w d = rw (l, t, r, m, n, k, w, d, s) refl

@@ -1,19 +1,14 @@
 -- What the machine's laws give a core within its phase.
-use Rattle.std.proofs.Common.{◌≡◌, ℕ, ◌+◌, ◌≤◌, List, Bool, ◌&&◌, Some, true, false, refl, subst, arith}
+use Rattle.std.proofs.Common.{◌≡◌, ℕ, ◌+◌, List, Bool, ◌&&◌, Some, true, false, refl, subst, arith}
 use Rattle.pmsi_model.specs.declared.job.Geometry.{Geometry}
 use Rattle.pmsi_model.specs.declared.Mode.TheVariants.{Modified}
 use Rattle.pmsi_model.specs.Job.{JobValue, IsJob, text_of}
 use Rattle.pmsi_model.specs.Machine.{Machine, Request, CoreState, mode_of, has_line, has_request, has_write}
-use Rattle.pmsi_model.specs.Effect.{Effect, Next, Memory, Stop}
-use Rattle.pmsi_model.specs.Phase.{Context, context_of, instruction, instructions, can_run, after_effect, effect_at, accessed, missed, is_permitted}
+use Rattle.pmsi_model.specs.Phase.{Context, context_of, instructions}
 use Rattle.pmsi_model.specs.Run.{machine_at}
 use Rattle.pmsi_model.proofs.Boundaries.{machine_at-slot}
-use Rattle.pmsi_model.proofs.Cases.{by_test}
-use Rattle.coherence_laws.proofs.Fine.{FineCore}
-use Rattle.coherence_laws.proofs.Whole.{IsWhole, IsLess, whole_later}
-use Rattle.coherence_laws.proofs.Phases.{instructions_kept}
-use Rattle.coherence_laws.proofs.Slots.{whole_at}
-use Rattle.core_unit.proofs.NotesClaims.{write_waits}
+use Rattle.coherence_laws.proofs.Exports.{FineCore, IsWhole, IsLess, whole_later, instructions_kept, whole_at}
+use Rattle.core_unit.proofs.SnoopsClaims.{write_waits}
 
 -- ---- the facts within a phase
 
@@ -30,19 +25,6 @@ whole_in job slot is = let x : Machine = machine_at job slot in
 pub fine_after : (job : JobValue) (slot c count : ℕ) → IsJob job → FineCore job.shape (slot + 1) (machine_at job slot).posted c (context_in job slot c count).core
 fine_after job slot c count is = let x : Machine = machine_at job slot in
     (instructions_kept job.shape slot (text_of job c) x.posted c count (context_of x c) is.shape.some_ways ((whole_in job slot is).fine c)).fine
-
--- ---- retired instructions
-
-after_retires : (shape : Geometry) (slot : ℕ) (e : Effect) (y : Context) → (after_effect shape slot e y).core.retired ≤ y.core.retired + 1
-after_retires shape slot (Next regs pc) y = omega arith
-after_retires shape slot (Stop halt) y = omega arith
-after_retires shape slot (Memory access) y =
-    by_test (λ (z : Context). z.core.retired ≤ y.core.retired + 1) (is_permitted shape access y.core) (accessed shape access y) (record y { core = missed shape slot access y.core }) (λ granted. omega arith) (λ denied. omega arith)
-
-pub instruction_retires : (shape : Geometry) (slot : ℕ) (text : List ℕ) (y : Context) → (instruction shape slot text y).core.retired ≤ y.core.retired + 1
-unfolding instruction
-instruction_retires shape slot text y =
-    by_test (λ (z : Context). z.core.retired ≤ y.core.retired + 1) (can_run y.core) (after_effect shape slot (effect_at shape text y.core) y) y (λ can. after_retires shape slot (effect_at shape text y.core) y) (λ stays. omega arith)
 
 -- ---- lines to write back for which a write is queued
 

@@ -14,7 +14,7 @@ use Rattle.pmsi_model.specs.Job.{JobValue, IsJob}
 use Rattle.pmsi_model.specs.Geometry.{line_bytes}
 use Rattle.pmsi_model.specs.Machine.{Machine, Request, mode_in, nobody_owns, owner_of, request_of, removed}
 use Rattle.pmsi_model.specs.Phase.{memory_after}
-use Rattle.pmsi_model.specs.Bus.{post, fill, write_back}
+use Rattle.pmsi_model.specs.Bus.{post, post_at, fill, write_back}
 use Rattle.pmsi_model.specs.Run.{machine_at, after_phases}
 use Rattle.pmsi_model.specs.Access.{width_of}
 use Rattle.pmsi_model.specs.declared.AccessOp.{AccessOp}
@@ -23,15 +23,14 @@ use Rattle.pmsi_model.specs.declared.instr.LoadOp.TheVariants.{Lb, Lh, Lw, Lbu, 
 use Rattle.pmsi_model.specs.declared.instr.StoreOp.TheVariants.{Sb, Sh, Sw}
 use Rattle.pmsi_model.specs.Shared.{SharedValue, IsLine, line_in, with_request, without_request, filled, written_back}
 use Rattle.pmsi_model.specs.Parts.{word_at, IsSharedOf}
+use Rattle.pmsi_model.proofs.Numbers.{next_multiple}
 use Rattle.pmsi_model.proofs.Boundaries.{phases-posted}
 use Rattle.pmsi_model.proofs.Changes.{post-posted, post-memory, fill-posted, fill-memory, write_back-posted, write_back-memory}
 use Rattle.pmsi_model.proofs.Owners.{nobody_below}
 use Rattle.coherence_laws.specs.Apart.{IsApart}
-use Rattle.coherence_laws.proofs.Apart.{ownerless_line, phases_are_apart}
-use Rattle.coherence_laws.proofs.ApartBytes.{IsFit, read_after}
-use Rattle.coherence_laws.proofs.ApartLines.{line_after_other}
-use Rattle.coherence_laws.proofs.ApartWants.{IsAsked}
-use Rattle.core_unit.proofs.Words.{some_words, mul_suc, line_of_word, word_same, length-spliced, spliced_before, spliced_at, spliced_after}
+use Rattle.coherence_laws.proofs.Exports.{ownerless_line, phases_are_apart, line_after_other, IsAsked}
+use Rattle.pmsi_model.proofs.Accesses.{IsFit, read_after}
+use Rattle.core_unit.proofs.Words.{some_words, line_of_word, word_same, length-spliced, spliced_before, spliced_at, spliced_after}
 use Rattle.core_unit.proofs.SidesOwners.{post-owner, fill-owner_read, fill-owner_else, fill-owner_write, back-owner, back-owner_else}
 
 -- ---- lines of memory
@@ -65,11 +64,15 @@ asked_below job x m want is h asked = subst (λ (l : ℕ). l < length m.owners) 
     (div_below want.access.address (line_bytes job.shape) (length m.owners) (let some = some_words job.shape is.shape in omega arith)
     (let all = whole_lines job x m h in let within = asked.fit.within in let some = some_width want.access.op in omega arith))
 
+-- a want is asked for as before once its request is posted
+pub asked_at : (shape : Geometry) (slot : ℕ) (want : Want) → IsAsked shape want → IsAsked shape (post_at slot want)
+asked_at shape slot want a = record { fit = a.fit; line = a.line; kind = a.kind }
+
 -- ---- the words of a line
 
 take_length : (words : List ℕ) (line lines count : ℕ) → lines * count ≡ length words → line < lines → length (take count (drop (line * count) words)) ≡ count
 take_length words line lines count size below = length-take-le count (drop (line * count) words)
-    (let most : (line + 1) * count ≤ lines * count = mul-le-mul_right count (let e : line + 1 ≤ lines = omega arith in e) in let next = mul_suc line count in omega (arith, length-drop (line * count) words))
+    (let most : (line + 1) * count ≤ lines * count = mul-le-mul_right count (let e : line + 1 ≤ lines = omega arith in e) in let next = next_multiple line count in omega (arith, length-drop (line * count) words))
 
 pub line_in-length : (job : JobValue) (x : Machine) (m : SharedValue) (line : ℕ) → IsSharedOf job x m → line < length m.owners → length (line_in m line) ≡ job.shape.line_words
 line_in-length job x m line h below = ap (λ (g : Geometry). length (take g.line_words (drop (line * g.line_words) m.words))) h.shape
@@ -85,7 +88,7 @@ line_in-word job x m line place h below none short =
     ∙ get_or-drop (line * job.shape.line_words) m.words place 0
     ∙ h.words (line * job.shape.line_words + place)
     (let most : (line + 1) * job.shape.line_words ≤ length m.owners * job.shape.line_words = mul-le-mul_right job.shape.line_words (let e : line + 1 ≤ length m.owners = omega arith in e) in
-    let next = mul_suc line job.shape.line_words in let all = h.lines in omega arith)
+    let next = next_multiple line job.shape.line_words in let all = h.lines in omega arith)
     (ap (owner_of x job.shape.cores) (line_of_word line place job.shape.line_words short) ∙ none)
 
 -- ---- the phases of a slot
@@ -210,14 +213,14 @@ module _ (job : JobValue) (y : Machine) (m : SharedValue) (c line : ℕ) (words 
   new_words = take (line * job.shape.line_words) m.words ++ words ++ drop ((line + 1) * job.shape.line_words) m.words
 
   back_size : line * job.shape.line_words + length words ≡ (line + 1) * job.shape.line_words
-  back_size = let e = mul_suc line job.shape.line_words in let n = b.count in omega arith
+  back_size = let e = next_multiple line job.shape.line_words in let n = b.count in omega arith
 
   back_within : (line + 1) * job.shape.line_words ≤ length m.words
   back_within = let n = b.within in let size = h.size in omega arith
 
   back_below : line < length m.owners
   back_below = lt_of_mul-lt-mul_right job.shape.line_words
-      (let e = mul_suc line job.shape.line_words in let n = back_within in let l = h.lines in let some = some_words job.shape is.shape in omega arith)
+      (let e = next_multiple line job.shape.line_words in let n = back_within in let l = h.lines in let some = some_words job.shape is.shape in omega arith)
 
   back_length : length new_words ≡ length m.words
   back_length = length-spliced m.words words (line * job.shape.line_words) ((line + 1) * job.shape.line_words) back_size back_within
@@ -238,7 +241,7 @@ module _ (job : JobValue) (y : Machine) (m : SharedValue) (c line : ℕ) (words 
   -- a word before the line, in it, or past it
   back_word : (i : ℕ) → i < length m.words → owner_of (write_back y c line kept) job.shape.cores (i / job.shape.line_words) ≡ None → get_or new_words i 0 ≡ word_at y.memory i
   back_word i below none = let count : ℕ = job.shape.line_words in let parts = div-add-mod' i job.shape.line_words in let rest = mod_below i job.shape.line_words (some_words job.shape is.shape) in
-      let next = mul_suc line job.shape.line_words in
+      let next = next_multiple line job.shape.line_words in
       dite (dec_lt i (line * job.shape.line_words))
       (λ low. spliced_before m.words words (line * job.shape.line_words) ((line + 1) * job.shape.line_words) back_size back_within i low
       ∙ else_word i below (λ same. let r : i / job.shape.line_words * job.shape.line_words ≡ line * job.shape.line_words = ap (λ (q : ℕ). q * job.shape.line_words) same in absurd (omega arith)) none)

@@ -1,5 +1,5 @@
 -- The bus before and after the action of a slot's owner.
-use Rattle.std.proofs.Common.{◌≡◌, ◌≢◌, ℕ, ◌+◌, ◌-◌, ◌*◌, ◌/◌, ◌<◌, ◌≤◌, List, [], ◌∷◌, ◌++◌, length, drop, get_or, Some, None, is_some, Bool, true, false, not, ◌&&◌, if◌then◌else◌, refl, sym, ap, ◌∙◌, subst, arith, add-one, length-append, length-drop}
+use Rattle.std.proofs.Common.{◌≡◌, ◌≢◌, ℕ, ◌+◌, ◌-◌, ◌*◌, ◌/◌, ◌<◌, ◌≤◌, List, [], ◌∷◌, ◌++◌, length, drop, get_or, Some, None, is_some, Bool, true, false, not, ◌&&◌, if◌then◌else◌, refl, sym, ap, ◌∙◌, subst, arith, length-append, length-drop}
 use Rattle.std.specs.Option.{option_map}
 use Rattle.std.proofs.lemmas.List.{drop-append-le, drop-drop}
 use Rattle.std.proofs.lemmas.Nat.{mod_below}
@@ -11,23 +11,21 @@ use Rattle.pmsi_model.specs.declared.Mode.TheVariants.{Modified}
 use Rattle.pmsi_model.specs.declared.Name.{Name}
 use Rattle.pmsi_model.specs.declared.Want.{Want}
 use Rattle.pmsi_model.specs.Job.{JobValue, IsJob}
-use Rattle.pmsi_model.specs.Slots.{plan_of, owner_of_slot}
+use Rattle.pmsi_model.specs.Slots.{SlotPlan, plan_of, gap_of, owner_of_slot}
 use Rattle.pmsi_model.specs.Machine.{Machine, CoreState, mode_in, has_write, owner_of, request_of}
 use Rattle.pmsi_model.specs.Bus.{has_victim_for, is_served, requests_now, kind_of_name, name_of, post, post_at, fill, keeps_line, action_of, after_action}
 use Rattle.pmsi_model.specs.Coherent.{IsCoherent, posted_request}
 use Rattle.pmsi_model.specs.Phase.{context_of}
 use Rattle.pmsi_model.specs.Run.{machine_at, after_phases, slot_done, record_at, records}
-use Rattle.pmsi_model.specs.Shared.{SharedValue, BusSide, owner_in, line_in, is_ready, with_request, filled, posted_in, written_back, last_of, ended, side_posted, side_filled, side_back, side_idle, IsOwnSlot, CanPost, CanFill, CanWriteBack}
+use Rattle.pmsi_model.specs.Shared.{SharedValue, BusSide, owner_in, line_in, is_ready, with_request, filled, posted_in, written_back, last_of, ended, side_posted, side_filled, side_back, side_idle, CanPost, CanFill, CanWriteBack}
 use Rattle.pmsi_model.specs.Parts.{word_at, IsSharedOf, IsBusPart}
-use Rattle.pmsi_model.proofs.Boundaries.{phases-slot, machine_at-slot, next_machine}
+use Rattle.pmsi_model.proofs.Boundaries.{phases-slot, machine_at-slot, next_machine, next_records}
 use Rattle.pmsi_model.proofs.Cases.{by_test}
 use Rattle.pmsi_model.proofs.Changes.{post-own, post-memory}
-use Rattle.pmsi_model.proofs.Owners.{nobody_none}
-use Rattle.coherence_laws.proofs.ApartMemory.{stays_memory}
-use Rattle.coherence_laws.proofs.ApartWants.{IsAsked, want_asked_between}
-use Rattle.coherence_laws.proofs.Slots.{kind_named, phases_coherent}
-use Rattle.core_unit.proofs.Sides.{side_carried, line_in-length, line_in-word, asked_below, line_within, shared_posted, IsFillable, shared_filled, IsBackable, shared_back}
-use Rattle.core_unit.proofs.SidesOwners.{owner_same, owner_alone, post-owner}
+use Rattle.pmsi_model.proofs.Owners.{nobody_none, owner_alone, owner_same}
+use Rattle.coherence_laws.proofs.Exports.{stays_memory, IsAsked, want_asked_between, kind_named, phases_coherent}
+use Rattle.core_unit.proofs.Sides.{side_carried, line_in-length, line_in-word, asked_at, asked_below, line_within, shared_posted, IsFillable, shared_filled, IsBackable, shared_back}
+use Rattle.core_unit.proofs.SidesOwners.{post-owner}
 use Rattle.core_unit.proofs.SidesReady.{keeps_due, ready_served, no_request, new_request, ready_posted, served_now, first_listed, action_posts, action_fills, action_backs, action_idles}
 
 -- ---- the last actions
@@ -39,10 +37,6 @@ last_more {X = X} n xs a = let few : length xs - n ≤ length xs = omega arith i
     ∙ drop-drop (length (drop (length xs - n) (xs ++ a ∷ [])) - n) (length xs - n) (xs ++ a ∷ [])
     ∙ ap (λ (j : ℕ). drop j (xs ++ a ∷ [])) (let e : (length xs - n) + (length (drop (length xs - n) (xs ++ a ∷ [])) - n) ≡ length (xs ++ a ∷ []) - n =
     omega (arith, length-drop (length xs - n) (xs ++ a ∷ []), length-append xs (a ∷ [])) in e)
-
-next_records : (job : JobValue) (slot : ℕ) → records job (slot + 1) ≡ records job slot ++ record_at job slot ∷ []
-unfolding records
-next_records job slot = rw add-one refl
 
 kept_trace : (keeps : Bool) (trace old : List Action) (action : Action) → trace ≡ (if keeps then old else [])
     → (if keeps then trace ++ action ∷ [] else trace) ≡ (if keeps then old ++ action ∷ [] else [])
@@ -112,18 +106,8 @@ module _ (job : JobValue) (slot c : ℕ) (b : BusSide) (is : IsJob job) (part : 
   pub side_now : IsSharedOf job (after_phases job (machine_at job slot)) b.memory
   side_now = side_carried job slot b.memory is part.memory
 
-  pub own_slot : IsOwnSlot c b
-  own_slot = record {
-    more = subst (λ (s : ℕ). s < b.memory.shape.slots) (sym part.now) (subst (λ (g : Geometry). slot < g.slots) (sym part.memory.shape) more);
-    own = ap (λ (g : Geometry). owner_of_slot (record { cores = g.cores }) b.slot) part.memory.shape ∙ ap (owner_of_slot (plan_of job)) part.now ∙ own;
-  }
-
   pub owner_within : c < job.shape.cores
   owner_within = subst (λ (d : ℕ). d < job.shape.cores) own (mod_below slot job.shape.cores (let some = is.shape.some_cores in omega arith))
-
-  -- the core is one of the bus
-  pub owner_on_bus : c < b.memory.shape.cores
-  owner_on_bus = subst (λ (g : Geometry). c < g.cores) (sym part.memory.shape) owner_within
 
   pub coherent_now : IsCoherent job.shape (record (after_phases job (machine_at job slot)) { slot = slot + 1 })
   coherent_now = phases_coherent job is slot job.shape.cores (omega arith)
@@ -224,13 +208,14 @@ module _ (job : JobValue) (slot c : ℕ) (b : BusSide) (is : IsJob job) (part : 
   next_side action m acted h = let recorded : record_at job slot ≡ action = record_is job slot c own ∙ acted in record {
     memory = subst (λ (z : Machine). IsSharedOf job z m) (sym (next_machine job slot))
         (slot_shared job (machine_at job slot) c m (slot_owner job slot c own) (subst (λ (a : Action). IsSharedOf job (after_action y c a) m) (sym acted) h));
+    plan = part.plan;
     now = ap (λ (s : ℕ). s + 1) part.now;
     within = omega arith;
-    recent = ap (λ (g : Geometry). last_of g.cores (b.recent ++ action ∷ [])) part.memory.shape
-        ∙ ap (λ (items : List Action). last_of job.shape.cores (items ++ action ∷ [])) part.recent
-        ∙ last_more job.shape.cores (records job slot) action
-        ∙ ap (λ (a : Action). last_of job.shape.cores (records job slot ++ a ∷ [])) (sym recorded)
-        ∙ ap (last_of job.shape.cores) (sym (next_records job slot));
+    recent = ap (λ (plan : SlotPlan). last_of (gap_of plan) (b.recent ++ action ∷ [])) part.plan
+        ∙ ap (λ (items : List Action). last_of (gap_of (plan_of job)) (items ++ action ∷ [])) part.recent
+        ∙ last_more (gap_of (plan_of job)) (records job slot) action
+        ∙ ap (λ (a : Action). last_of (gap_of (plan_of job)) (records job slot ++ a ∷ [])) (sym recorded)
+        ∙ ap (last_of (gap_of (plan_of job))) (sym (next_records job slot));
     trace = kept_trace b.keeps b.trace (records job slot) action part.trace
         ∙ ap (λ (a : Action). if b.keeps then records job slot ++ a ∷ [] else []) (sym recorded)
         ∙ ap (λ (items : List Action). if b.keeps then items else []) (sym (next_records job slot));
@@ -263,14 +248,11 @@ module _ (job : JobValue) (slot c : ℕ) (b : BusSide) (is : IsJob job) (part : 
     wants = ap (λ (k : CoreState). k.want) (post-own y c want.kind want.line) ∙ ap (option_map (post_at y.slot)) wants;
     request = new_request job y b.memory c want None side_now wants_posted wants unposted;
     nobody = grind arith;
-    asked = (let asked = asked_now want wants in record { fit = asked.fit; line = asked.line; kind = asked.kind });
+    asked = asked_at job.shape y.slot want (asked_now want wants);
     extent = ap length (post-memory y c want.kind want.line) ∙ extent_now;
   }
 
   -- by the kind of the request's name
-  abbrev PostShared : Want → Kind → Type 0
-  PostShared want kind = IsSharedOf job (post y c kind want.line) (with_request c want.line kind b.memory)
-
   abbrev PostFillShared : Want → Kind → Type 0
   PostFillShared want kind = IsSharedOf job (fill (post y c kind want.line) c) (filled c (with_request c want.line kind b.memory))
 

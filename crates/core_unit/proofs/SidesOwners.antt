@@ -1,5 +1,5 @@
 -- The owners of lines, and what each action does to them.
-use Rattle.std.proofs.Common.{◌≡◌, ◌≢◌, ℕ, zero, suc, ◌<◌, List, Option, Some, None, is_none, Bool, true, false, if◌then◌else◌, refl, sym, ap, ◌∙◌, subst, arith}
+use Rattle.std.proofs.Common.{◌≡◌, ◌≢◌, ℕ, ◌<◌, List, Option, Some, None, Bool, true, false, if◌then◌else◌, refl, sym, ap, ◌∙◌, subst, arith}
 use mathlib.Core.Logic.{dite}
 use native.Mathlib.Decide.{ℕ_discrete}
 use Rattle.pmsi_model.specs.declared.Kind.{Kind}
@@ -9,39 +9,9 @@ use Rattle.pmsi_model.specs.declared.Mode.TheVariants.{Shared, Modified}
 use Rattle.pmsi_model.specs.declared.Want.{Want}
 use Rattle.pmsi_model.specs.Machine.{Machine, CoreState, mode_of, mode_in, is_modified, without, with_mode, owns, nobody_owns, owner_of, has_write, removed}
 use Rattle.pmsi_model.specs.Bus.{post, noted_post, fill, filled_line, write_back}
-use Rattle.pmsi_model.proofs.Cases.{by_bool}
 use Rattle.pmsi_model.proofs.Changes.{filled_core, post-own, post-other, noted-mode, fill-own, fill-other, write_back-own, write_back-other}
 use Rattle.pmsi_model.proofs.Held.{mode_without, mode_to_front, mode_with_mode}
-use Rattle.pmsi_model.proofs.Owners.{owner_none, nobody_none, nobody_below, nobody_from, owner_below, owner_mode}
-
--- ---- readings
-
-pub owner_same : (x y : Machine) (count line : ℕ) → ((d : ℕ) → d < count → owns x d line ≡ owns y d line) → owner_of x count line ≡ owner_of y count line
-owner_same x y zero line same = refl
-owner_same x y (suc count) line same =
-    let before : owner_of x count line ≡ owner_of y count line = owner_same x y count line (λ d below. same d (omega arith)) in
-    let last : owns x count line ≡ owns y count line = same count (omega arith) in grind arith
-
-ownerless : (x : Machine) (count line : ℕ) (o : Option ℕ) → owner_of x count line ≡ o → nobody_owns x count line ≡ is_none o
-ownerless x count line None is = owner_none x count line is
-ownerless x count line (Some d) is = by_bool (nobody_owns x count line)
-    (λ nobody. absurd (let none = nobody_none x count line nobody in grind arith))
-    (λ other. other)
-
--- nobody owns a line that has no owner
-pub nobody-owner : (x : Machine) (count line : ℕ) → nobody_owns x count line ≡ is_none (owner_of x count line)
-nobody-owner x count line = ownerless x count line (owner_of x count line) refl
-
-alone_case : (x : Machine) (count line c : ℕ) → c < count → mode_in x c line ≡ Some Modified
-    → ((d : ℕ) → d < count → d ≢ c → mode_in x d line ≢ Some Modified) → (o : Option ℕ) → owner_of x count line ≡ o → o ≡ Some c
-alone_case x count line c below owned alone None is = absurd (nobody_below x count line (owner_none x count line is) c below owned)
-alone_case x count line c below owned alone (Some d) is =
-    dite (ℕ_discrete d c) (λ same. ap (λ (n : ℕ). Some n) same) (λ other. absurd (alone d (owner_below x count line d is) other (owner_mode x count line d is)))
-
--- a core that owns a line, which no other of the cores owns, is its owner
-pub owner_alone : (x : Machine) (count line c : ℕ) → c < count → mode_in x c line ≡ Some Modified
-    → ((d : ℕ) → d < count → d ≢ c → mode_in x d line ≢ Some Modified) → owner_of x count line ≡ Some c
-owner_alone x count line c below owned alone = alone_case x count line c below owned alone (owner_of x count line) refl
+use Rattle.pmsi_model.proofs.Owners.{nobody_none, nobody_below, nobody_from, owner_alone, owner_same}
 
 -- ---- a post
 

@@ -13,10 +13,9 @@ use Rattle.pmsi_model.specs.Shared.{SharedValue, owner_in, is_ready_for, is_read
 use Rattle.pmsi_model.specs.Parts.{IsSharedOf}
 use Rattle.pmsi_model.proofs.Changes.{post-posted}
 use Rattle.pmsi_model.proofs.Requests.{request_more}
-use Rattle.coherence_laws.proofs.Slots.{kind_named}
+use Rattle.coherence_laws.proofs.Exports.{kind_named}
 use Rattle.pend_buffers.specs.declared.Choice.TheVariants.{Idle as IdleChoice, Request as RequestChoice, Back as BackChoice}
 use Rattle.pend_buffers.specs.Pending.{PendingValue, can_ask, choice_of}
-use Rattle.core_unit.proofs.SidesOwners.{nobody-owner}
 use Rattle.core_unit.proofs.Sides.{shared_posted}
 
 -- ---- a posted request
@@ -28,7 +27,6 @@ ready_served job y m c r h is =
     ap (is_ready_for m c) (ap (request_of c) h.posted ∙ is)
     ∙ ap (λ (rs : List Request). is_core c (first_of r.line rs) && is_none (owner_in m r.line)) h.posted
     ∙ ap (λ (o : Option ℕ). is_core c (first_of r.line y.posted) && is_none o) (h.owners r.line)
-    ∙ ap (λ (b : Bool). is_core c (first_of r.line y.posted) && b) (sym (nobody-owner y job.shape.cores r.line))
 
 asks_by : (job : JobValue) (y : Machine) (m : SharedValue) (c : ℕ) (want : Want) (b : Bool) → IsSharedOf job y m
     → request_of c y.posted ≡ (if b then Some (record { core = c; line = want.line; kind = want.kind }) else None)

@@ -1,5 +1,5 @@
 -- What a state stands for after each part of an instruction.
-use Rattle.std.proofs.Common.{◌≡◌, ◌≢◌, ◌⊎◌, ℕ, ◌+◌, ◌*◌, ◌/◌, ◌<◌, ◌≤◌, ◌==◌, List, All, length, get_or, Option, Some, None, Bool, true, false, if◌then◌else◌, refl, sym, ap, ◌∙◌, subst, inl, inr, arith}
+use Rattle.std.proofs.Common.{◌≡◌, ◌≢◌, ◌⊎◌, ℕ, ◌+◌, ◌*◌, ◌/◌, ◌<◌, ◌≤◌, ◌==◌, List, length, get_or, Option, Some, None, Bool, true, false, if◌then◌else◌, refl, sym, ap, ◌∙◌, subst, inl, inr, arith}
 use Rattle.pmsi_model.specs.declared.job.Geometry.{Geometry}
 use Rattle.pmsi_model.specs.declared.Access.{Access}
 use Rattle.pmsi_model.specs.declared.Halt.{Halt}
@@ -20,19 +20,20 @@ use Rattle.pmsi_model.specs.Effect.{Effect, Next, Memory, Stop, effect_of, with_
 use Rattle.pmsi_model.specs.declared.instr.Instr.{Instr}
 use Rattle.pmsi_model.specs.Machine.{CoreState, mode_of}
 use Rattle.pmsi_model.specs.Phase.{Context, met_bytes, memory_after, retired_with, evicted, drop_shared, victim_of, append_victim, missed, after_effect, accessed, is_permitted, permits, touched_line, can_run, instruction, effect_at, effect_of_word, effect_of_fetch}
-use Rattle.pmsi_model.proofs.Held.{mode_without, mode_to_front}
+use Rattle.pmsi_model.proofs.Held.{mode_to_front}
 use Rattle.cache_array.specs.declared.line.CachedLine.{CachedLine}
-use Rattle.cache_array.specs.Cache.{CacheValue, held_of, words_of, word_place, others, with_word, touched}
-use Rattle.cache_array.proofs.Lines.{held_of-others, held_of-with_word, held_of-touched, words_of-others, words_of-with_word, words_of-touched}
+use Rattle.cache_array.specs.Cache.{CacheValue, held_of, words_of, word_place, with_word, touched}
+use Rattle.cache_array.proofs.Exports.{held_of-others, held_of-with_word, held_of-touched, words_of-with_word, words_of-touched}
 use Rattle.core_unit.specs.declared.state.State.{State}
 use Rattle.pmsi_model.specs.Parts.{word_at}
 use Rattle.core_unit.specs.State.{core_of, with_lines, lines_after, lines_with, met_in, performed, gone_for, lines_without, with_room, wanting}
 use Rattle.rv_exec.specs.Effects.{IsAccessTo}
 use Rattle.rv_exec.specs.Accesses.{bytes_after, covered}
 use Rattle.core_unit.specs.Stands.{with_memory, IsWantOf, CopiesAgree, Carries, StandsFor}
-use Rattle.coherence_laws.proofs.ApartBytes.{IsFit, lane_fits, length-memory_after, memory_after_below, read_after}
-use Rattle.coherence_laws.proofs.ApartEffects.{whole_words}
-use Rattle.core_unit.proofs.Copies.{covered_is, word_at-after, place_of_word, place_below, copies_same, copies_written, copies_dropped}
+use Rattle.pmsi_model.proofs.Accesses.{IsFit, granted_held, lane_fits, length-memory_after, memory_after_below, read_after}
+use Rattle.pmsi_model.proofs.Effects.{whole_words}
+use Rattle.core_unit.proofs.Copies.{covered_is, word_at-after, place_of_word, place_below, copies_same, copies_written}
+use Rattle.core_unit.proofs.Carried.{copies_dropped, rebuilt, relined, unchanged}
 use Rattle.core_unit.proofs.Words.{some_words}
 
 pub either : {A B C : Type 0} → (A → C) → (B → C) → A ⊎ B → C
@@ -48,41 +49,11 @@ owner_mode (Some Modified) granted = refl
 
 pub goes_on : (job : JobValue) (c : ℕ) (memory : List ℕ) (v : State) (slot pc : ℕ) (regs : List ℕ) → Carries job c memory v →
     StandsFor job c (after_effect job.shape slot (Next regs pc) (with_memory memory v)) (record v { regs = regs; pc = pc; retired = v.retired + 1 })
-goes_on job c memory v slot pc regs s = record {
-  carries = record {
-    within = s.within;
-    below = s.below;
-    number = s.number;
-    shape = s.shape;
-    cache = s.cache;
-    cores = s.cores;
-    text = s.text;
-    bytes = s.bytes;
-    small = s.small;
-    agree = s.agree;
-    want = s.want;
-  };
-  core = refl;
-}
+goes_on job c memory v slot pc regs s = record { carries = unchanged job c memory v (record v { regs = regs; pc = pc; retired = v.retired + 1 }) s refl refl refl; core = refl }
 
 pub stops : (job : JobValue) (c : ℕ) (memory : List ℕ) (v : State) (slot : ℕ) (halt : Halt) → Carries job c memory v →
     StandsFor job c (after_effect job.shape slot (Stop halt) (with_memory memory v)) (record v { status = Halted halt })
-stops job c memory v slot halt s = record {
-  carries = record {
-    within = s.within;
-    below = s.below;
-    number = s.number;
-    shape = s.shape;
-    cache = s.cache;
-    cores = s.cores;
-    text = s.text;
-    bytes = s.bytes;
-    small = s.small;
-    agree = s.agree;
-    want = s.want;
-  };
-  core = refl;
-}
+stops job c memory v slot halt s = record { carries = unchanged job c memory v (record v { status = Halted halt }) s refl refl refl; core = refl }
 
 -- ---- an access that is done
 
@@ -97,23 +68,6 @@ held_word job c memory v address s held = let some = some_words job.shape s.with
 inside : (job : JobValue) (c : ℕ) (memory : List ℕ) (v : State) (address : ℕ) → Carries job c memory v → address < job.shape.memory → 4 * (address / 4) + 4 ≤ length memory
 inside job c memory v address s below = let w = whole_words job.shape.memory job.shape.line_words s.within.shape.memory in let b = s.bytes in omega arith
 
--- the state with other lines, registers, want and memory still carries the job
-pub rebuilt : (job : JobValue) (c : ℕ) (memory memory' : List ℕ) (v v' : State) → Carries job c memory v → v'.number ≡ v.number → v'.shape ≡ v.shape → v'.cache.shape ≡ v.cache.shape → v'.pending.cores ≡ v.pending.cores →
-    v'.text ≡ v.text → length memory' ≡ length memory → All (λ byte. byte < 256) memory' → CopiesAgree job memory' v'.cache.lines → ((want : Want) → v'.pending.want ≡ Some want → IsWantOf job want) → Carries job c memory' v'
-rebuilt job c memory memory' v v' s number shape cache cores text bytes small agree want = record {
-  within = s.within;
-  below = s.below;
-  number = number ∙ s.number;
-  shape = shape ∙ s.shape;
-  cache = cache ∙ s.cache;
-  cores = cores ∙ s.cores;
-  text = text ∙ s.text;
-  bytes = bytes ∙ s.bytes;
-  small = small;
-  agree = agree;
-  want = want;
-}
-
 lines_held : (kind : Kind) (line place word : ℕ) (lines : List CachedLine) → held_of (lines_after kind line place word lines) ≡ held_of lines
 lines_held Read line place word lines = refl
 lines_held Write line place word lines = held_of-with_word line place word lines
@@ -121,12 +75,6 @@ lines_held Write line place word lines = held_of-with_word line place word lines
 -- an access changes no line's mode
 pub performed_held : (access : Access) (v : State) → held_of (performed access v).cache.lines ≡ held_of v.cache.lines
 performed_held access v = lines_held (kind_of access.op) (line_of v.cache.shape access.address) (word_place v.cache.shape access.address) (number_of (bytes_after access (met_in access v.cache))) v.cache.lines
-
-pub granted_held : (kind : Kind) (mode : Option Mode) → permits kind mode ≡ true → mode ≢ None
-granted_held Read None granted is = absurd (grind arith)
-granted_held Read (Some mode) granted is = absurd (grind arith)
-granted_held Write None granted is = absurd (grind arith)
-granted_held Write (Some mode) granted is = absurd (grind arith)
 
 -- copies agree after an access with permission
 access_agree : (job : JobValue) (c : ℕ) (memory : List ℕ) (v : State) (access : Access) (kind : Kind) → kind_of access.op ≡ kind → Carries job c memory v → IsAccessTo job.shape.memory access →
@@ -147,21 +95,32 @@ access_agree job c memory v access Write is s a granted =
     (word_at-after access memory a.aligned s.small (inside job c memory v access.address s a.within) i below))
     s.agree
 
+-- an access with permission meets the word of memory
+met_word : (job : JobValue) (c : ℕ) (memory : List ℕ) (v : State) (access : Access) → Carries job c memory v →
+    permits (kind_of access.op) (mode_of (line_of job.shape access.address) (held_of v.cache.lines)) ≡ true → met_in access v.cache ≡ word_at memory (access.address / 4)
+met_word job c memory v access s granted =
+    ap (λ (g : Geometry). get_or (words_of (line_of g access.address) v.cache.lines) (word_place g access.address) 0) s.cache
+    ∙ held_word job c memory v access.address s (granted_held (kind_of access.op) (mode_of (line_of job.shape access.address) (held_of v.cache.lines)) granted)
+
+-- and its bytes
+pub met_covered : (job : JobValue) (c : ℕ) (memory : List ℕ) (v : State) (access : Access) → Carries job c memory v → IsAccessTo job.shape.memory access →
+    permits (kind_of access.op) (mode_of (line_of job.shape access.address) (held_of v.cache.lines)) ≡ true → met_bytes access memory ≡ covered access (met_in access v.cache)
+met_covered job c memory v access s a granted =
+    sym (ap (covered access) (met_word job c memory v access s granted) ∙ covered_is access memory a.aligned s.small (inside job c memory v access.address s a.within))
+
 -- what a state stands for once an access with permission is done
 pub performs : (job : JobValue) (c : ℕ) (memory : List ℕ) (v : State) (access : Access) → Carries job c memory v → IsAccessTo job.shape.memory access →
     permits (kind_of access.op) (mode_of (line_of job.shape access.address) (held_of v.cache.lines)) ≡ true →
     StandsFor job c (record { core = retired_with access (met_bytes access memory) (core_of v); memory = memory_after access memory }) (performed access v)
 performs job c memory v access s a granted =
-    let line : ℕ = line_of job.shape access.address in let within = inside job c memory v access.address s a.within in
-    let word : met_in access v.cache ≡ word_at memory (access.address / 4) =
-    ap (λ (g : Geometry). get_or (words_of (line_of g access.address) v.cache.lines) (word_place g access.address) 0) s.cache
-    ∙ held_word job c memory v access.address s (granted_held (kind_of access.op) (mode_of line (held_of v.cache.lines)) granted) in
-    let met : met_bytes access memory ≡ covered access (met_in access v.cache) = sym (ap (covered access) word ∙ covered_is access memory a.aligned s.small within) in
+    let line : ℕ = line_of job.shape access.address in
+    let word : met_in access v.cache ≡ word_at memory (access.address / 4) = met_word job c memory v access s granted in
+    let met : met_bytes access memory ≡ covered access (met_in access v.cache) = met_covered job c memory v access s a granted in
     let agree : CopiesAgree job (memory_after access memory) (lines_with access v.cache) =
     subst (λ (g : Geometry). CopiesAgree job (memory_after access memory) (lines_after (kind_of access.op) (line_of g access.address) (word_place g access.address) (number_of (bytes_after access (met_in access v.cache))) v.cache.lines)) (sym s.cache)
     (subst (λ (w : ℕ). CopiesAgree job (memory_after access memory) (lines_after (kind_of access.op) line (word_place job.shape access.address) (number_of (bytes_after access w)) v.cache.lines)) (sym word)
     (access_agree job c memory v access (kind_of access.op) refl s a granted)) in record {
-      carries = rebuilt job c memory (memory_after access memory) v (performed access v) s refl refl refl refl refl (length-memory_after access memory) (memory_after_below access memory s.small) agree s.want;
+      carries = rebuilt job c memory (memory_after access memory) v (performed access v) s refl (length-memory_after access memory) (memory_after_below access memory s.small) agree s.want;
       core = ap (λ (bytes : List ℕ). let k : CoreState = core_of v in let j : CoreState = record k { regs = with_reg k.regs access.rd (access_value access.op bytes); pc = next_pc k.pc; retired = k.retired + 1 } in j) met
           ∙ ap (λ (h : List (ℕ × Mode)). let k : CoreState = core_of (performed access v) in let j : CoreState = record k { held = h } in j) (sym (performed_held access v));
     }
@@ -195,7 +154,7 @@ pub hits : (job : JobValue) (c : ℕ) (memory : List ℕ) (v : State) (slot : �
     StandsFor job c (after_effect job.shape slot (Memory access) (with_memory memory v)) (hit_state (line_of job.shape access.address) access v)
 hits job c memory v slot access s is granted = let line : ℕ = line_of job.shape access.address in let d = performs job c memory v access s is granted in
     subst (λ y. StandsFor job c y (hit_state line access v)) (sym (granted_done job.shape slot access (with_memory memory v) granted)) (record {
-      carries = rebuilt job c (memory_after access memory) (memory_after access memory) (performed access v) (hit_state line access v) d.carries refl refl refl refl refl refl d.carries.small
+      carries = relined job c (memory_after access memory) (performed access v) (hit_state line access v) d.carries refl
           (touched_agree job (memory_after access memory) line (performed access v).cache.lines s.within d.carries.agree) d.carries.want;
       core = hit_core line access v (retired_with access (met_bytes access memory) (core_of v)) d.core;
     })
@@ -207,13 +166,11 @@ dropped_held None lines = refl
 dropped_held (Some (line, Shared)) lines = held_of-others line lines
 dropped_held (Some (line, Modified)) lines = refl
 
-dropped_agree : (job : JobValue) (memory : List ℕ) (gone : Option (ℕ × Mode)) (lines : List CachedLine) → IsJob job → CopiesAgree job memory lines → CopiesAgree job memory (lines_without gone lines)
-dropped_agree job memory None lines is agree = agree
-dropped_agree job memory (Some (line, Shared)) lines is agree =
-    copies_dropped job.shape.line_words (some_words job.shape is.shape) memory (λ l. mode_of l (held_of lines)) (λ l. mode_of l (held_of (others line lines))) (λ l. words_of l lines) (λ l. words_of l (others line lines)) line
-    (λ l. ap (mode_of l) (held_of-others line lines) ∙ mode_without l line (held_of lines))
-    (λ l other. words_of-others line l lines ∙ grind arith) agree
-dropped_agree job memory (Some (line, Modified)) lines is agree = agree
+dropped_agree : (job : JobValue) (memory : List ℕ) (gone : Option (ℕ × Mode)) (lines : List CachedLine) → CopiesAgree job memory lines
+    → CopiesAgree job memory (lines_without gone lines)
+dropped_agree job memory None lines agree = agree
+dropped_agree job memory (Some (line, Shared)) lines agree = copies_dropped job memory line lines agree
+dropped_agree job memory (Some (line, Modified)) lines agree = agree
 
 denied_missed : (shape : Geometry) (slot : ℕ) (access : Access) (x : Context) → is_permitted shape access x.core ≡ false → after_effect shape slot (Memory access) x ≡ record x { core = missed shape slot access x.core }
 denied_missed shape slot access x denied = grind arith
@@ -251,8 +208,8 @@ pub misses : (job : JobValue) (c : ℕ) (memory : List ℕ) (v : State) (slot : 
     is_permitted job.shape access (core_of v) ≡ false → StandsFor job c (after_effect job.shape slot (Memory access) (with_memory memory v)) (wanting access (line_of job.shape access.address) v)
 misses job c memory v slot access s now is denied = let line : ℕ = line_of job.shape access.address in
     subst (λ y. StandsFor job c y (wanting access line v)) (sym (denied_missed job.shape slot access (with_memory memory v) denied)) (record {
-      carries = rebuilt job c memory memory v (wanting access line v) s refl refl refl refl refl refl s.small
-          (dropped_agree job memory (gone_for line v) v.cache.lines s.within s.agree)
+      carries = relined job c memory v (wanting access line v) s refl
+          (dropped_agree job memory (gone_for line v) v.cache.lines s.agree)
           (λ want wants. new_want job access v want is wants);
       core = missed_core slot job.shape access v s.cache now;
     })

@@ -8,8 +8,9 @@ use Rattle.pmsi_model.specs.Geometry.{IsGeometry}
 use Rattle.pmsi_model.specs.Words.{number_of}
 use Rattle.pmsi_model.specs.Phase.{bytes_from}
 use Rattle.pmsi_model.specs.Parts.{word_at}
+use Rattle.pmsi_model.proofs.Numbers.{next_multiple}
 use Rattle.coherence_laws.specs.Apart.{line_bytes_in}
-use Rattle.coherence_laws.proofs.ApartLines.{bytes_within}
+use Rattle.coherence_laws.proofs.Exports.{bytes_within}
 
 -- ---- places
 
@@ -17,12 +18,9 @@ use Rattle.coherence_laws.proofs.ApartLines.{bytes_within}
 pub some_words : (shape : Geometry) → IsGeometry shape → 0 < shape.line_words
 some_words shape is = let least = is.least_line in omega arith
 
-pub mul_suc : (n count : ℕ) → (n + 1) * count ≡ n * count + count
-mul_suc n count = grind arith
-
 -- the line of a word, by its place there
 pub line_of_word : (line place count : ℕ) → place < count → (line * count + place) / count ≡ line
-line_of_word line place count below = div-eq_of_lt-le count (omega arith) (let m = mul_suc line count in omega arith)
+line_of_word line place count below = div-eq_of_lt-le count (omega arith) (let m = next_multiple line count in omega arith)
 
 -- ---- words of a line
 

@@ -1,9 +1,10 @@
 -- What a core asks of the bus, and what comes of it.
-use Rattle.std.specs.Prelude.{◌≡◌, ℕ, ◌+◌, List, Option, Some, None, true}
+use Rattle.std.specs.Prelude.{◌≡◌, ◌≢◌, ℕ, ◌+◌, List, Option, Some, None, true}
 use Rattle.pmsi_model.specs.declared.Action.{Action}
 use Rattle.pmsi_model.specs.declared.Action.TheVariants.{Back, Fill}
 use Rattle.pmsi_model.specs.declared.Want.{Want}
 use Rattle.pmsi_model.specs.Job.{JobValue}
+use Rattle.pmsi_model.specs.Slots.{plan_of, owner_of_slot}
 use Rattle.pmsi_model.specs.Run.{record_at}
 use Rattle.pmsi_model.specs.Machine.{removed}
 use Rattle.pmsi_model.specs.Shared.{SharedValue, BusSide, CanFill, CanPost, CanWriteBack, behind_in, line_in, side_back, side_filled, side_posted}
@@ -12,7 +13,7 @@ use Rattle.cache_array.specs.Cache.{Holds, words_of}
 use Rattle.core_unit.specs.declared.state.State.{State}
 use Rattle.core_unit.specs.State.{asked, backed, fills_at_once, keeps, name_for, posted_action, posted_state, served}
 use Rattle.core_unit.specs.Stands.{CanServe}
-use Rattle.core_unit.specs.Parts.{IsPart}
+use Rattle.core_unit.specs.Parts.{IsPart, IsPartAfter}
 
 -- a line is held, and owned as the bus has it
 pub record CanBack (line : ℕ) (v : State) (m : SharedValue) : Type 0 where
@@ -54,6 +55,12 @@ pub record IsFilled (want : Want) (post : ℕ) (v : State) (b : BusSide) (action
 abbrev pub IsRequested : Option ℕ → Want → State → BusSide → Action → State → BusSide → Type 0
 IsRequested None want v b action w after = IsPosted want v b action w after
 IsRequested (Some post) want v b action w after = IsFilled want post v b action w after
+
+-- another core snooped the action of the slot's owner, for each job of which it can be
+abbrev pub IsSnooped : ℕ → Action → State → State → Type 0
+IsSnooped by action old new =
+    (job : JobValue) (slot c : ℕ) → IsPartAfter job slot c old → owner_of_slot (plan_of job) slot ≡ by → by ≢ c → action ≡ record_at job slot →
+    IsPart job (slot + 1) c new
 
 -- the owner of a slot did its action: core and bus are at the next boundary
 pub record IsActed (job : JobValue) (slot c : ℕ) (action : Action) (v : State) (b : BusSide) : Type 0 where

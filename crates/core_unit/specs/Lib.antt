@@ -1,9 +1,11 @@
-pub mod Rows
+pub mod Reserved
 pub mod Lines
 pub mod Copies
 pub mod State
 pub mod Stands
 pub mod Parts
 pub mod Phases
-pub mod Notes
+pub mod Snoops
 pub mod Acts
+pub mod Laws
+pub mod Opened

@@ -2,19 +2,23 @@
 use Rattle.std.specs.Prelude.{◌≡◌, ◌≢◌, ◌⊎◌, ℕ, ◌+◌, ◌%◌, ◌^◌, ◌<◌, List, length, Some, None, true}
 use Rattle.std.specs.List.{All}
 use Rattle.pmsi_model.specs.declared.Kind.TheVariants.{Write}
+use Rattle.pmsi_model.specs.declared.Touch.{Touch}
+use Rattle.pmsi_model.specs.declared.limits.TheConstants.{MAX_CORES}
 use Rattle.pmsi_model.specs.declared.Want.{Want}
 use Rattle.pmsi_model.specs.Geometry.{IsGeometry, line_of}
 use Rattle.pmsi_model.specs.Access.{kind_of, width_of}
 use Rattle.pmsi_model.specs.Job.{JobValue, IsJob, text_of}
+use Rattle.pmsi_model.specs.Slots.{plan_of}
 use Rattle.pmsi_model.specs.Coherent.{HoldsEachOnce}
 use Rattle.pmsi_model.specs.Machine.{mode_of, has_line}
-use Rattle.pmsi_model.specs.Phase.{Context, set_lines}
+use Rattle.pmsi_model.specs.Effect.{Effect}
+use Rattle.pmsi_model.specs.Phase.{Context, access_at, access_if_permitted, after_effect, instruction, set_lines, touch_list}
 use Rattle.cache_array.specs.declared.line.CachedLine.{CachedLine}
 use Rattle.cache_array.specs.Cache.{Holds as IsHeld, held_of, words_of}
 use Rattle.rv_exec.specs.Effects.{IsAccessTo}
 use Rattle.core_unit.specs.declared.state.State.{State}
 use Rattle.core_unit.specs.Copies.{AreCopies}
-use Rattle.core_unit.specs.State.{core_of}
+use Rattle.core_unit.specs.State.{core_of, more_touches}
 
 -- a want for an access to its line
 pub record IsWantOf (job : JobValue) (want : Want) : Type 0 where
@@ -32,6 +36,7 @@ pub record Carries (job : JobValue) (c : ℕ) (memory : List ℕ) (v : State) : 
   pub below : c < job.shape.cores
   pub number : v.number ≡ c
   pub shape : v.shape ≡ job.shape
+  pub plan : v.plan ≡ plan_of job
   pub cache : v.cache.shape ≡ job.shape
   pub cores : v.pending.cores ≡ job.shape.cores
   pub text : v.text ≡ text_of job c
@@ -49,12 +54,51 @@ pub record StandsFor (job : JobValue) (c : ℕ) (y : Context) (v : State) : Type
   pub carries : Carries job c y.memory v
   pub core : y.core ≡ core_of v
 
--- the slot, the mark of its phase, the rows and what is known of other cores' requests stay
+-- the slot, the mark of its phase, the rows and what is known of other cores' requests stay, and so does whether accesses
+-- are kept, and their room
 pub record SameRun (old new : State) : Type 0 where
   pub slot : new.slot ≡ old.slot
   pub rows : new.rows ≡ old.rows
+  pub keeps : new.keeps ≡ old.keeps
+  pub room : new.touches.room ≡ old.touches.room
   pub claimed : new.claimed ≡ old.claimed
   pub phase_done : new.phase_done ≡ old.phase_done
+
+-- these accesses were done, and are kept where accesses are
+abbrev pub HasTouched : List Touch → State → State → Type 0
+HasTouched more old new = new.touches.items ≡ more_touches old.keeps old.touches.items more
+
+-- ---- what an instruction does, for each job of which the old state can be a core's
+
+-- an effect, which may depend on the shape of the job, is that of the machine
+abbrev pub StandsAfter : (JobValue → Effect) → State → State → Type 0
+StandsAfter effect old new =
+    (job : JobValue) (c : ℕ) (memory : List ℕ) → Carries job c memory old →
+    StandsFor job c (after_effect job.shape old.slot (effect job) (with_memory memory old)) new
+
+-- and its access is done where it has permission
+abbrev pub TouchesAfter : (JobValue → Effect) → State → State → Type 0
+TouchesAfter effect old new =
+    (job : JobValue) (c : ℕ) (memory : List ℕ) → Carries job c memory old →
+    HasTouched (touch_list old.slot c (access_if_permitted job.shape (core_of old) (effect job)) memory) old new
+
+-- the instruction at the pc is that of the machine
+abbrev pub StandsNext : State → State → Type 0
+StandsNext old new =
+    (job : JobValue) (c : ℕ) (memory : List ℕ) → Carries job c memory old →
+    StandsFor job c (instruction job.shape old.slot (text_of job c) (with_memory memory old)) new
+
+-- and its access is done where it has permission
+abbrev pub TouchesNext : State → State → Type 0
+TouchesNext old new =
+    (job : JobValue) (c : ℕ) (memory : List ℕ) → Carries job c memory old →
+    HasTouched (touch_list old.slot c (access_at job.shape (text_of job c) (core_of old)) memory) old new
+
+-- ---- what has to hold before
+
+-- there is room for one more access, where they are kept
+abbrev pub HasTouchRoom : State → Type 0
+HasTouchRoom v = v.keeps ≡ true → length v.touches.items < v.touches.room
 
 -- a state of some job can execute an instruction: no line is held twice, and there is room for a victim
 pub record CanExecute (v : State) : Type 0 where
@@ -65,6 +109,7 @@ pub record CanExecute (v : State) : Type 0 where
   pub once : HoldsEachOnce (held_of v.cache.lines)
   pub backs : length v.pending.write_backs < v.pending.cores
   pub retires : v.retired + 1 < 2 ^ 64
+  pub touches : HasTouchRoom v
   pub wants_nothing : v.pending.want ≡ None
 
 -- the words of a wanted line can be taken: the line has room in the cache and, if it is written, among the lines to write
@@ -75,7 +120,7 @@ pub record CanTake (want : Want) (words : List ℕ) (v : State) : Type 0 where
   pub fits : IsHeld want.line v.cache.lines ⊎ (length (set_lines v.shape want.line (held_of v.cache.lines)) < v.shape.ways)
   pub backs : want.kind ≡ Write → length v.pending.write_backs < v.pending.cores
   pub unqueued : want.kind ≡ Write → has_line want.line v.pending.write_backs ≢ true
-  pub claims : want.kind ≡ Write → length v.claimed < 16
+  pub claims : want.kind ≡ Write → length v.claimed < MAX_CORES
 
 -- a want can be served
 pub record CanServe (want : Want) (words : List ℕ) (v : State) : Type 0 where
@@ -83,5 +128,6 @@ pub record CanServe (want : Want) (words : List ℕ) (v : State) : Type 0 where
   pub shape : IsGeometry v.shape
   pub aligned : want.access.address % width_of want.access.op ≡ 0
   pub retires : v.retired + 1 < 2 ^ 64
-  pub rows : length v.rows.rows < v.rows.room
+  pub rows : length v.rows.items < v.rows.room
+  pub touches : HasTouchRoom v
   pub wanted : v.pending.want ≢ None

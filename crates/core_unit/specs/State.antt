@@ -3,6 +3,7 @@ use Rattle.std.specs.Prelude.{ℕ, ◌+◌, List, [], ◌∷◌, ◌++◌, not, 
 use Rattle.std.specs.Option.{option_map}
 use Rattle.pmsi_model.specs.declared.job.Geometry.{Geometry}
 use Rattle.pmsi_model.specs.declared.Access.{Access}
+use Rattle.pmsi_model.specs.declared.AccessOp.{AccessOp}
 use Rattle.pmsi_model.specs.declared.Action.{Action}
 use Rattle.pmsi_model.specs.declared.Action.TheVariants.{Idle, Post, Fill, PostFill, Back}
 use Rattle.pmsi_model.specs.declared.Behind.{Behind}
@@ -13,11 +14,12 @@ use Rattle.pmsi_model.specs.declared.Mode.{Mode}
 use Rattle.pmsi_model.specs.declared.Mode.TheVariants.{Shared, Modified}
 use Rattle.pmsi_model.specs.declared.Name.{Name}
 use Rattle.pmsi_model.specs.declared.Row.{Row}
+use Rattle.pmsi_model.specs.declared.Touch.{Touch}
 use Rattle.pmsi_model.specs.declared.Turn.TheVariants.{Request as RequestTurn, WriteBack as WriteBackTurn}
 use Rattle.pmsi_model.specs.declared.Want.{Want}
 use Rattle.pmsi_model.specs.Geometry.{line_of}
 use Rattle.pmsi_model.specs.Words.{number_of}
-use Rattle.pmsi_model.specs.Access.{access_value, kind_of}
+use Rattle.pmsi_model.specs.Access.{access_bytes, access_value, kind_of, width_of}
 use Rattle.rv_exec.specs.Accesses.{bytes_after, covered}
 use Rattle.pmsi_model.specs.Effect.{with_reg, next_pc}
 use Rattle.pmsi_model.specs.Machine.{CoreState, is_modified, is_write, mode_of, has_line, append_once}
@@ -57,18 +59,40 @@ abbrev pub lines_after : Kind → ℕ → ℕ → ℕ → List CachedLine → Li
 lines_after Read line place word lines = lines
 lines_after Write line place word lines = with_word line place word lines
 
+-- the lines where an operation left a word at an address
+abbrev pub lines_left : AccessOp → ℕ → ℕ → CacheValue → List CachedLine
+lines_left op address word cache = lines_after (kind_of op) (line_of cache.shape address) (word_place cache.shape address) word cache.lines
+
 -- the cached word that an access meets
 abbrev pub met_in : Access → CacheValue → ℕ
 met_in access cache = slice_index (words_of (line_of cache.shape access.address) cache.lines) (word_place cache.shape access.address)
 
 -- and the lines once it is done
 abbrev pub lines_with : Access → CacheValue → List CachedLine
-lines_with access cache =
-    lines_after (kind_of access.op) (line_of cache.shape access.address) (word_place cache.shape access.address) (number_of (bytes_after access (met_in access cache))) cache.lines
+lines_with access cache = lines_left access.op access.address (number_of (bytes_after access (met_in access cache))) cache
+
+-- the note of an access that met this word
+abbrev pub touch_on : Access → ℕ → State → Touch
+touch_on access word v = record {
+  slot = v.slot;
+  core = v.number;
+  address = access.address;
+  width = width_of access.op;
+  kind = kind_of access.op;
+  old = number_of (covered access word);
+  new = number_of (access_bytes access.op access.operand (covered access word));
+}
+
+-- accesses go last, where they are kept
+abbrev pub more_touches : Bool → List Touch → List Touch → List Touch
+more_touches keeps touches more = if keeps then touches ++ more else touches
+
+abbrev pub with_touch : Touch → State → State
+with_touch touch v = record v { touches = record v.touches { items = more_touches v.keeps v.touches.items (touch ∷ []) } }
 
 -- an access that met this word gives its value, and its instruction retires
 abbrev pub retired_on : Access → ℕ → State → State
-retired_on access word v = record v {
+retired_on access word v = record (with_touch (touch_on access word v) v) {
   regs = with_reg v.regs access.rd (access_value access.op (covered access word));
   pc = next_pc v.pc;
   retired = v.retired + 1;
@@ -148,18 +172,26 @@ row_for want post v = record { core = v.number; line = want.line; kind = want.ki
 -- the want ends
 abbrev pub with_row : Row → State → State
 with_row row v = record v {
-  pending = record v.pending { want = None; turn = WriteBackTurn };
-  rows = record v.rows { rows = v.rows.rows ++ row ∷ [] };
+  pending = record v.pending { want = None };
+  rows = record v.rows { items = v.rows.items ++ row ∷ [] };
 }
 
+-- by a shape
+abbrev pub filled_on : Geometry → Want → List ℕ → ℕ → Behind → State → State
+filled_on shape want words post behind v =
+    with_row (row_for want post v) (with_filled want (words_with shape want.access words) behind (retired_on want.access (met_among shape want.access words) v))
+
+-- a request was done: a write-back is next
+abbrev pub turned : State → State
+turned v = record v { pending = record v.pending { turn = WriteBackTurn } }
+
 abbrev pub served : Want → List ℕ → ℕ → Behind → State → State
-served want words post behind v =
-    with_row (row_for want post v) (with_filled want (words_with v.shape want.access words) behind (retired_on want.access (met_among v.shape want.access words) v))
+served want words post behind v = turned (filled_on v.shape want words post behind v)
 
 -- ---- a request is posted
 
 abbrev pub asked : State → State
-asked v = record v { pending = record v.pending { want = option_map (post_at v.slot) v.pending.want; turn = WriteBackTurn } }
+asked v = turned (with_want (option_map (post_at v.slot) v.pending.want) v)
 
 abbrev pub name_for : Want → State → Name
 name_for want v = name_of want.kind (mode_of want.line (held_of v.cache.lines))
@@ -188,26 +220,26 @@ backed line lines v = record v {
   claimed = without_line line v.claimed;
 }
 
--- ---- the note of another core's action
+-- ---- another core's action is snooped
 
 -- the line is to be written back
 abbrev pub with_demanded : ℕ → State → State
 with_demanded line v = record v { pending = record v.pending { write_backs = append_once line v.pending.write_backs } }
 
 -- a write invalidates a shared copy, and an owner has the line to write back
-abbrev pub noted_in : Kind → ℕ → Option Mode → State → State
-noted_in kind line None v = v
-noted_in kind line (Some Shared) v = if is_write kind then with_lines (others line v.cache.lines) v else v
-noted_in kind line (Some Modified) v = record (with_demanded line v) { claimed = if is_write kind then append_once line v.claimed else v.claimed }
+abbrev pub snooped_in : Kind → ℕ → Option Mode → State → State
+snooped_in kind line None v = v
+snooped_in kind line (Some Shared) v = if is_write kind then with_lines (others line v.cache.lines) v else v
+snooped_in kind line (Some Modified) v = record (with_demanded line v) { claimed = if is_write kind then append_once line v.claimed else v.claimed }
 
-abbrev pub noted : Kind → ℕ → State → State
-noted kind line v = noted_in kind line (mode_of line (held_of v.cache.lines)) v
+abbrev pub snooped_request : Kind → ℕ → State → State
+snooped_request kind line v = snooped_in kind line (mode_of line (held_of v.cache.lines)) v
 
 abbrev pub snooped : Action → State → State
 snooped Idle v = v
-snooped (Post name line) v = noted (kind_of_name name) line v
+snooped (Post name line) v = snooped_request (kind_of_name name) line v
 snooped (Fill line) v = v
-snooped (PostFill name line) v = noted (kind_of_name name) line v
+snooped (PostFill name line) v = snooped_request (kind_of_name name) line v
 snooped (Back line kept) v = v
 
 -- the state when the slot is over

@@ -2,43 +2,37 @@
 ghost use Rattle.std.specs.Prelude.{◌≡◌, ◌≢◌, ℕ, ◌+◌, ◌%◌, ◌^◌, ◌<◌, ◌∷◌, List, length, Some, None, true, option_map};
 ghost use Rattle.arrayvec.specs.ArrayVec.{array_vec_len};
 ghost use Rattle.pmsi_model.specs.Access.{width_of};
-ghost use Rattle.pmsi_model.specs.declared.Action.TheVariants.{Fill};
 ghost use Rattle.pmsi_model.specs.declared.Want.{Want};
 ghost use Rattle.pmsi_model.specs.Bus.{clear_victim};
 ghost use Rattle.pmsi_model.specs.Coherent.{victim_in};
 ghost use Rattle.pmsi_model.specs.Geometry.{IsGeometry};
 ghost use Rattle.pmsi_model.specs.Job.{JobValue};
-ghost use Rattle.pmsi_model.specs.Machine.{removed};
 ghost use Rattle.pmsi_model.specs.Parts.{IsBusPart};
-ghost use Rattle.pmsi_model.specs.Shared.{CanFill, CanPost, IsOwnSlot, behind_in, line_in, side_filled, side_posted};
-ghost use Rattle.core_unit.specs.State.{asked, fills_at_once, keeps, met_among, name_for, posted_action, posted_state, retired_on, served, with_filled, with_want, words_with};
-ghost use Rattle.core_unit.specs.Stands.{CanServe, CanTake};
+ghost use Rattle.pmsi_model.specs.Shared.{IsOwnSlot};
+ghost use Rattle.core_unit.specs.State.{filled_on, keeps, met_among, name_for, retired_on, with_filled, with_want, words_with};
+ghost use Rattle.core_unit.specs.Stands.{CanServe, CanTake, HasTouchRoom};
 ghost use Rattle.core_unit.specs.Parts.{CanAct, IsPartAfter};
-ghost use Rattle.core_unit.specs.Acts.{CanBack, CanRequest, IsActed, IsBacked, IsRequested};
+ghost use Rattle.core_unit.specs.Acts.{CanBack, CanFillFor, CanPostFor, CanRequest, IsActed, IsBacked, IsFilled, IsPosted, IsRequested};
 
 use crate::state::State;
-use arrayvec::ArrayVec;
 use pend_buffers::Choice;
-use pmsi_model::{Access, Action, Behind, BusPort, Kind, Mode, Name, Posted, Row, Turn, Want};
-use rv_exec::apply;
+use pmsi_model::{
+    Access, Action, Behind, BusPort, Kind, LineWords, Mode, Name, Posted, Row, Turn, Want,
+};
 
 impl State {
     /// Does the missed access on the words of its line, and retires its instruction.
-    fn finish_access(&mut self, access: Access, words: &mut ArrayVec<u32, 16>)
+    fn finish_access(&mut self, access: Access, words: &mut LineWords)
         requires shape { IsGeometry self.old.shape }
         requires count { array_vec_len words.old ≡ self.old.shape.line_words }
         requires aligned { access.address % width_of access.op ≡ 0 }
         requires retires { self.old.retired + 1 < 2 ^ 64 }
+        requires room { HasTouchRoom self.old }
         ensures words { words.new.items ≡ words_with self.old.shape access words.old.items }
         ensures state { self.new ≡ retired_on access (met_among self.old.shape access words.old.items) self.old }
     {
-        let Access { rd, address, .. } = access;
-        let place = (address % self.shape.line_bytes() / 4) as usize;
-        let applied = apply(access, words[place]);
-        words[place] = applied.new_word;
-        self.regs.set(rd, applied.rd_value);
-        self.pc = self.pc.wrapping_add(4);
-        self.retired += 1;
+        let place = (access.address % self.shape.line_bytes() / 4) as usize;
+        words[place] = self.retire(access, words[place]);
     }
 
     /// The line comes into the cache: a write has it modified, and has to write it back where requests are queued; a read
@@ -66,9 +60,9 @@ impl State {
     }
 
     /// Ends the want, which was posted in the slot `post`, with the words of its line.
-    fn serve(&mut self, want: &Want, words: &mut ArrayVec<u32, 16>, post: u32, behind: Behind)
+    fn serve(&mut self, want: &Want, words: &mut LineWords, post: u32, behind: Behind)
         requires { CanServe want.now words.old.items self.old }
-        ensures { self.new ≡ served want.now words.old.items post behind self.old }
+        ensures { self.new ≡ filled_on self.old.shape want.now words.old.items post behind self.old }
     {
         self.finish_access(want.access, words);
         self.fill_line(want, words.as_slice(), behind);
@@ -81,7 +75,6 @@ impl State {
             fill: self.slot,
         });
         self.pending.take_want();
-        self.pending.acted(Turn::WriteBack);
     }
 
     /// The name of the want's request: an upgrade where the core holds the line shared.
@@ -99,14 +92,11 @@ impl State {
     fn post<P: BusPort>(&mut self, want: &Want, bus: &mut P) -> Action
         requires wanted { self.old.pending.want ≡ Some want.now }
         requires slot { IsOwnSlot self.old.number (P.side bus.old) }
-        requires can { CanPost self.old.number want.now.line (P.side bus.old).memory }
-        requires serve { fills_at_once want.now (P.side bus.old).memory self.old ≡ true → CanServe want.now (line_in (P.side bus.old).memory want.now.line) (asked self.old) }
-        ensures core { self.new ≡ posted_state want.now (P.side bus.old).memory self.old }
-        ensures action { result ≡ posted_action want.now (P.side bus.old).memory self.old }
-        ensures side { P.side bus.new ≡ side_posted self.old.number want.now.line (name_for want.now self.old) (P.side bus.old) }
+        requires can { CanPostFor want.now self.old (P.side bus.old).memory }
+        ensures { IsPosted want.now self.old (P.side bus.old) result self.new (P.side bus.new) }
     {
         let name = self.name_for(want);
-        let mut words = ArrayVec::new();
+        let mut words = LineWords::new();
         self.pending.posted(self.slot);
         self.pending.acted(Turn::WriteBack);
         match bus.post(self.number, want.line, name, &mut words) {
@@ -121,15 +111,13 @@ impl State {
     /// Fills the want's request, which was posted in the slot `post`.
     fn fill<P: BusPort>(&mut self, want: &Want, post: u32, bus: &mut P) -> Action
         requires slot { IsOwnSlot self.old.number (P.side bus.old) }
-        requires can { CanFill self.old.number want.now.line (P.side bus.old).memory }
-        requires serve { CanServe want.now (line_in (P.side bus.old).memory want.now.line) self.old }
-        ensures core { self.new ≡ served want.now (line_in (P.side bus.old).memory want.now.line) post (behind_in want.now.line (removed self.old.number (P.side bus.old).memory.posted)) self.old }
-        ensures action { result ≡ Fill want.now.line }
-        ensures side { P.side bus.new ≡ side_filled self.old.number want.now.line (P.side bus.old) }
+        requires can { CanFillFor want.now self.old (P.side bus.old).memory }
+        ensures { IsFilled want.now post self.old (P.side bus.old) result self.new (P.side bus.new) }
     {
-        let mut words = ArrayVec::new();
+        let mut words = LineWords::new();
         let behind = bus.fill(self.number, want.line, &mut words);
         self.serve(want, &mut words, post, behind);
+        self.pending.acted(Turn::WriteBack);
         Action::Fill(want.line)
     }
 
@@ -161,11 +149,12 @@ impl State {
         requires some { 0 < length self.old.pending.write_backs }
         requires slot { IsOwnSlot self.old.number (P.side bus.old) }
         requires first { (line : ℕ) (lines : List ℕ) → self.old.pending.write_backs ≡ line ∷ lines → CanBack line self.old (P.side bus.old).memory }
-        ensures { (line : ℕ) (lines : List ℕ) → self.old.pending.write_backs ≡ line ∷ lines → IsBacked line lines self.old (P.side bus.old) result self.new (P.side bus.new) }
+        ensures { (line : ℕ) (lines : List ℕ) → self.old.pending.write_backs ≡ line ∷ lines →
+            IsBacked line lines self.old (P.side bus.old) result self.new (P.side bus.new) }
     {
         let line = self.pending.pop();
         let keep = self.keeps(line);
-        let mut words = ArrayVec::new();
+        let mut words = LineWords::new();
         self.cache.copy_line(line, &mut words);
         bus.back(self.number, line, words.as_slice(), keep);
         if keep {
@@ -184,7 +173,8 @@ impl State {
         requires wanted { self.old.pending.want ≢ None }
         requires slot { IsOwnSlot self.old.number (P.side bus.old) }
         requires can { (want : Want) → self.old.pending.want ≡ Some want → CanRequest want.post want self.old (P.side bus.old).memory }
-        ensures { (want : Want) → self.old.pending.want ≡ Some want → IsRequested want.post want self.old (P.side bus.old) result self.new (P.side bus.new) }
+        ensures { (want : Want) → self.old.pending.want ≡ Some want →
+            IsRequested want.post want self.old (P.side bus.old) result self.new (P.side bus.new) }
     {
         let Some(want) = self.pending.want() else {
             unreachable!()
@@ -198,8 +188,10 @@ impl State {
     /// Does the action of the slot, which is the core's.
     pub fn act<P: BusPort>(&mut self, bus: &mut P) -> Action
         requires { CanAct self.old (P.side bus.old) }
-        ensures acted { (job : JobValue) (slot c : ℕ) → IsPartAfter job slot c self.old → IsBusPart job slot (P.side bus.old) → IsActed job slot c result self.new (P.side bus.new) }
-        ensures keeps { (P.side bus.new).keeps ≡ (P.side bus.old).keeps }
+        ensures acted { (job : JobValue) (slot c : ℕ) → IsPartAfter job slot c self.old → IsBusPart job slot (P.side bus.old) →
+            IsActed job slot c result self.new (P.side bus.new) }
+        ensures keeps { self.new.keeps ≡ self.old.keeps }
+        ensures bus_keeps { (P.side bus.new).keeps ≡ (P.side bus.old).keeps }
     {
         let action = match self.pending.choose(bus.ready(self.number)) {
             Choice::Idle => {

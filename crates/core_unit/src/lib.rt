@@ -1,14 +1,19 @@
-//! One core: its phase of a slot, its action in an own slot, and its note of another core's action.
+//! One core: its phase of a slot, its action in an own slot, and what it learns by snooping another core's action.
 #![tactic(auto)]
 
 mod action;
+mod demand;
+pub mod laws;
 mod lines;
-mod note;
+mod opening;
 mod phase;
-mod rows;
+mod reserved;
+mod retire;
+mod snoop;
 mod state;
 #[cfg(test)]
 mod tests;
 mod unit;
 
+pub use opening::open_cores;
 pub use unit::Core;

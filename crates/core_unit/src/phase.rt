@@ -1,23 +1,23 @@
 //! A core's phase of a slot: at most a quantum of instructions.
-ghost use Rattle.std.specs.Prelude.{◌≡◌, ℕ, ◌+◌, ◌/◌, ◌%◌, ◌^◌, ◌<◌, List, length, true, None, slice_get};
+ghost use Rattle.std.specs.Prelude.{◌≡◌, ℕ, ◌+◌, ◌/◌, ◌%◌, ◌^◌, ◌<◌, length, true, None, slice_get};
 ghost use Rattle.pmsi_model.specs.Access.{kind_of, width_of};
 ghost use Rattle.pmsi_model.specs.Effect.{Memory as MemoryEffect};
 ghost use Rattle.pmsi_model.specs.Geometry.{IsGeometry, line_of};
 ghost use Rattle.pmsi_model.specs.Instruction.{instr_of};
-ghost use Rattle.pmsi_model.specs.Job.{JobValue, text_of};
+ghost use Rattle.pmsi_model.specs.Job.{JobValue};
 ghost use Rattle.pmsi_model.specs.Machine.{is_modified, mode_of};
-ghost use Rattle.pmsi_model.specs.Phase.{after_effect, can_run, effect_of_word, instruction, permits, victim_of};
+ghost use Rattle.pmsi_model.specs.Phase.{can_run, effect_of_word, permits, victim_of};
 ghost use Rattle.cache_array.specs.Cache.{Holds, IsCache, held_of, others, word_place};
 ghost use Rattle.rv_exec.specs.Effects.{IsAccessTo};
-ghost use Rattle.core_unit.specs.State.{core_of, gone_for, lines_after, performed, wanting, with_lines, with_room};
-ghost use Rattle.core_unit.specs.Stands.{CanExecute, Carries, SameRun, StandsFor, with_memory};
+ghost use Rattle.core_unit.specs.State.{core_of, gone_for, lines_left, performed, wanting, with_lines, with_room};
+ghost use Rattle.core_unit.specs.Stands.{CanExecute, HasTouchRoom, SameRun, StandsAfter, StandsNext, TouchesAfter, TouchesNext};
 ghost use Rattle.core_unit.specs.Parts.{CanPhase, IsPart, IsPartAfter};
 ghost use Rattle.core_unit.specs.Phases.{IsInPhase};
 
 use crate::state::State;
 use pmsi_model::{Access, AccessOp, Halt, Kind, Mode, Status, Want};
 use rv_decode::decode;
-use rv_exec::{Effect, apply, exec};
+use rv_exec::{Effect, exec};
 
 impl State {
     fn can_run(&self) -> bool
@@ -33,7 +33,7 @@ impl State {
     fn leave(&mut self, op: AccessOp, address: u32, word: u32)
         requires aligned { address % 4 ≡ 0 }
         requires held { Holds (line_of self.old.cache.shape address) self.old.cache.lines }
-        ensures { self.new ≡ with_lines (lines_after (kind_of op) (line_of self.old.cache.shape address) (word_place self.old.cache.shape address) word self.old.cache.lines) self.old }
+        ensures { self.new ≡ with_lines (lines_left op address word self.old.cache) self.old }
     {
         match op {
             AccessOp::Load(_) => {}
@@ -46,21 +46,15 @@ impl State {
         requires aligned { access.address % width_of access.op ≡ 0 }
         requires shape { IsGeometry self.old.cache.shape }
         requires held { Holds (line_of self.old.cache.shape access.address) self.old.cache.lines }
-        requires room { self.old.retired + 1 < 2 ^ 64 }
+        requires retires { self.old.retired + 1 < 2 ^ 64 }
+        requires room { HasTouchRoom self.old }
         ensures { self.new ≡ performed access self.old }
     {
-        let Access {
-            op,
-            rd,
-            address,
-            ..
-        } = access;
-        let word = address - address % 4;
-        let applied = apply(access, self.cache.read_word(word));
-        self.regs.set(rd, applied.rd_value);
-        self.leave(op, word, applied.new_word);
-        self.pc = self.pc.wrapping_add(4);
-        self.retired += 1;
+        let Access { op, address, .. } = access;
+        let aligned = address - address % 4;
+        let met = self.cache.read_word(aligned);
+        let left = self.retire(access, met);
+        self.leave(op, aligned, left);
     }
 
     /// Whether the core holds a line modified.
@@ -130,7 +124,8 @@ impl State {
         requires ready { CanExecute self.old }
         requires within { IsAccessTo self.old.shape.memory access }
         ensures same { SameRun self.old self.new }
-        ensures stands { (job : JobValue) (c : ℕ) (memory : List ℕ) → Carries job c memory self.old → StandsFor job c (after_effect job.shape self.old.slot (MemoryEffect access) (with_memory memory self.old)) self.new }
+        ensures stands { StandsAfter (λ job. MemoryEffect access) self.old self.new }
+        ensures touched { TouchesAfter (λ job. MemoryEffect access) self.old self.new }
     {
         let line = self.shape.line_of(access.address);
         if self.permits(access.op.kind(), line) {
@@ -145,7 +140,8 @@ impl State {
     fn execute(&mut self, word: u32)
         requires { CanExecute self.old }
         ensures same { SameRun self.old self.new }
-        ensures stands { (job : JobValue) (c : ℕ) (memory : List ℕ) → Carries job c memory self.old → StandsFor job c (after_effect job.shape self.old.slot (effect_of_word job.shape word (core_of self.old) (instr_of word)) (with_memory memory self.old)) self.new }
+        ensures stands { StandsAfter (λ job. effect_of_word job.shape word (core_of self.old) (instr_of word)) self.old self.new }
+        ensures touched { TouchesAfter (λ job. effect_of_word job.shape word (core_of self.old) (instr_of word)) self.old self.new }
     {
         let Some(instr) = decode(word) else {
             self.status = Status::Halted(Halt::Illegal(word));
@@ -173,7 +169,8 @@ impl State {
         requires ready { CanExecute self.old }
         requires runs { can_run (core_of self.old) ≡ true }
         ensures same { SameRun self.old self.new }
-        ensures stands { (job : JobValue) (c : ℕ) (memory : List ℕ) → Carries job c memory self.old → StandsFor job c (instruction job.shape self.old.slot (text_of job c) (with_memory memory self.old)) self.new }
+        ensures stands { StandsNext self.old self.new }
+        ensures touched { TouchesNext self.old self.new }
     {
         match self.fetch_word() {
             Some(word) => self.execute(word),
@@ -184,7 +181,8 @@ impl State {
     /// Takes at most a quantum of instructions.
     fn take_quantum(&mut self)
         requires { CanPhase self.old }
-        ensures { (job : JobValue) (slot c : ℕ) → slot < job.shape.slots → IsPart job slot c self.old → IsInPhase job slot c job.shape.quantum self.new }
+        ensures taken { (job : JobValue) (slot c : ℕ) → slot < job.shape.slots → IsPart job slot c self.old → IsInPhase job slot c job.shape.quantum self.new }
+        ensures keeps { self.new.keeps ≡ self.old.keeps }
     {
         for _ in 0..self.shape.quantum {
             if !self.can_run() {
@@ -197,7 +195,8 @@ impl State {
     /// The phase of the slot.
     pub fn phase(&mut self)
         requires { CanPhase self.old }
-        ensures { (job : JobValue) (slot c : ℕ) → slot < job.shape.slots → IsPart job slot c self.old → IsPartAfter job slot c self.new }
+        ensures phased { (job : JobValue) (slot c : ℕ) → slot < job.shape.slots → IsPart job slot c self.old → IsPartAfter job slot c self.new }
+        ensures keeps { self.new.keeps ≡ self.old.keeps }
     {
         self.take_quantum();
         self.phase_done = true;

@@ -1,19 +1,23 @@
 //! What a core has: registers, cache, and its side of the bus.
+ghost use Rattle.std.specs.Prelude.{◌≡◌, IfOk};
+
 use crate::lines::LineSet;
-use crate::rows::Rows;
+use crate::reserved::ReservedList;
 use cache_array::CacheArray;
 use pend_buffers::Pending;
-use pmsi_model::{Geometry, Status, Words};
+use pmsi_model::{Geometry, NoMemory, Row, SlotTable, Status, Touch, Words};
 use rv_exec::Regs;
+use std::alloc::Global;
 
 /// A core, with what it has of the machine's run.
 #[derive(Drop)]
 pub struct State {
     pub number: u32,
     pub shape: Geometry,
+    pub plan: SlotTable,
     pub text: Words,
     pub slot: u32,
-    /// The phase of the slot is done, and the slot's action isn't done or noted yet.
+    /// The phase of the slot is done, and the slot's action isn't done or snooped yet.
     pub phase_done: bool,
     pub regs: Regs,
     pub pc: u32,
@@ -24,5 +28,35 @@ pub struct State {
     /// The lines to write back for which another core's write is queued.
     pub claimed: LineSet,
     /// The requests that were served, in a room for one in each own slot.
-    pub rows: Rows,
+    pub rows: ReservedList<Row>,
+    /// Whether accesses are kept.
+    pub keeps: bool,
+    /// The accesses that were done, where they are kept, in a room for one for each instruction of each slot.
+    pub touches: ReservedList<Touch>,
+}
+
+impl State {
+    /// An equal state, with the same room taken.
+    pub fn copy(&self, alloc: Global) -> Result<State, NoMemory>
+        ensures { IfOk result (λ v. v ≡ self.now) }
+    {
+        Ok(State {
+            number: self.number,
+            shape: self.shape,
+            plan: self.plan.copy(),
+            text: Words::from_vec(Vec::from_slice(alloc, self.text.as_slice())?),
+            slot: self.slot,
+            phase_done: self.phase_done,
+            regs: self.regs.copy(),
+            pc: self.pc,
+            status: self.status,
+            retired: self.retired,
+            cache: self.cache.copy(alloc)?,
+            pending: self.pending.copy(),
+            claimed: self.claimed.copy(),
+            rows: self.rows.copy(alloc)?,
+            keeps: self.keeps,
+            touches: self.touches.copy(alloc)?,
+        })
+    }
 }

@@ -1,12 +1,15 @@
-ghost use Rattle.std.specs.Prelude.{◌≡◌, IfOk};
+ghost use Rattle.std.specs.Prelude.{◌≡◌, ◌≤◌, IfOk};
+ghost use Rattle.pmsi_model.specs.declared.limits.TheConstants.{MAX_TOUCHES};
+ghost use Rattle.pmsi_model.specs.Geometry.{most_touches};
 
 use crate::Core;
-use pmsi_model::{Bytes, Geometry, Job, NoMemory, Reg, WordLists, Words};
+use pmsi_model::{Bytes, Geometry, Job, Keep, NoMemory, Reg, WordLists, Words};
 use std::alloc::Global;
 
 /// A job of two cores with short texts.
 fn job(alloc: Global) -> Result<Job, NoMemory>
-    ensures { IfOk result (λ job. job.shape.cores ≡ 2) }
+    ensures cores { IfOk result (λ job. job.shape.cores ≡ 2) }
+    ensures few { IfOk result (λ job. most_touches job.shape ≤ MAX_TOUCHES) }
 {
     let shape = Geometry {
         cores: 2,
@@ -28,10 +31,17 @@ fn job(alloc: Global) -> Result<Job, NoMemory>
     Ok(Job::new(shape, WordLists::from_vec(texts), Bytes::from_vec(start)))
 }
 
+fn sends<T: Send>(_value: &T) {}
+
 #[test]
 fn opens_before_the_first_slot(rt: HostRuntime) -> Result<(), NoMemory> {
     let job = job(rt.alloc())?;
-    let core = Core::open(rt.alloc(), &job, 1)?;
+    let keep = Keep {
+        trace: false,
+        touches: true,
+    };
+    let core = Core::open(rt.alloc(), &job, 1, keep)?;
+    sends(&core);
     assert_eq!(rt; core.number(), 1);
     assert_eq!(rt; core.reg(Reg::new(10)), 1);
     assert_eq!(rt; core.reg(Reg::new(11)), 2);
@@ -40,5 +50,7 @@ fn opens_before_the_first_slot(rt: HostRuntime) -> Result<(), NoMemory> {
     assert_eq!(rt; core.shape().slots, 10);
     assert_eq!(rt; core.cache().held_count(), 0);
     assert_eq!(rt; core.rows().len(), 0);
+    assert!(rt; core.keeps());
+    assert_eq!(rt; core.touches().len(), 0);
     Ok(())
 }

@@ -1,19 +1,20 @@
 //! One core of the machine.
-ghost use Rattle.std.specs.Prelude.{◌≡◌, ◌≢◌, ℕ, ◌+◌, ◌<◌, false, IfOk};
+ghost use Rattle.std.specs.Prelude.{◌≡◌, ℕ, ◌<◌, false, IfOk};
 ghost use Rattle.pmsi_model.specs.Effect.{reg_of};
-ghost use Rattle.pmsi_model.specs.Geometry.{IsGeometry};
+ghost use Rattle.pmsi_model.specs.Geometry.{CanKeep, IsGeometry};
 ghost use Rattle.pmsi_model.specs.Job.{JobValue};
-ghost use Rattle.pmsi_model.specs.Run.{record_at};
-ghost use Rattle.pmsi_model.specs.Slots.{owner_of_slot, plan_of};
 ghost use Rattle.pmsi_model.specs.Parts.{IsBusPart};
 
 use crate::lines::LineSet;
-use crate::rows::Rows;
+use crate::reserved::ReservedList;
 use crate::state::State;
 use cache_array::CacheArray;
 use pend_buffers::Pending;
-use pmsi_model::{Action, BusPort, Geometry, Job, NoMemory, Reg, Row, Status, Words};
+use pmsi_model::{
+    Action, BusPort, Geometry, Job, Keep, NoMemory, Reg, Row, SlotTable, Status, Touch, Words,
+};
 use rv_exec::Regs;
+use slot_plan::count_own;
 use std::alloc::Global;
 use std::marker::Model;
 
@@ -35,21 +36,31 @@ impl Model for Core {
 }
 
 impl Core {
-    ghost use Rattle.core_unit.specs.Acts.{IsActed};
+    ghost use Rattle.core_unit.specs.Acts.{IsActed, IsSnooped};
     ghost use Rattle.core_unit.specs.Parts.{CanAct, CanSnoop, IsPart, IsPartAfter};
 
-    /// A core of a job before its first slot. Room for the rows is taken here, one for each own slot; no later call takes
-    /// memory.
-    pub fn open(alloc: Global, job: &Job, core: u32) -> Result<Core, NoMemory>
-        requires { core < job.now.shape.cores }
-        ensures { IfOk result (λ v. IsPart job.now 0 core v) }
+    /// A core of a job before its first slot. Room is taken here for the rows, one for each own slot, and where accesses
+    /// are to be kept for them, one for each instruction that the core can take; no later call but `copy` takes memory.
+    pub fn open(alloc: Global, job: &Job, core: u32, keep: Keep) -> Result<Core, NoMemory>
+        requires core { core < job.now.shape.cores }
+        requires touches { CanKeep keep job.now.shape }
+        ensures part { IfOk result (λ v. IsPart job.now 0 core v) }
+        ensures keeps { IfOk result (λ v. v.keeps ≡ keep.touches) }
     {
         let shape = job.shape();
+        let plan = SlotTable::plain(shape.cores);
         let text = Vec::from_slice(alloc, job.text(core).as_slice())?;
+        let rows = count_own(&plan, core, shape.slots) as usize;
+        let touches = if keep.touches {
+            (shape.slots * shape.quantum) as usize
+        } else {
+            0
+        };
         Ok(Core {
             state: State {
                 number: core,
                 shape,
+                plan,
                 text: Words::from_vec(text),
                 slot: 0,
                 phase_done: false,
@@ -60,8 +71,19 @@ impl Core {
                 cache: CacheArray::new(alloc, shape)?,
                 pending: Pending::new(shape.cores),
                 claimed: LineSet::new(),
-                rows: Rows::with_room(alloc, (shape.slots / shape.cores) as usize + 1)?,
+                rows: ReservedList::with_room(alloc, rows)?,
+                keeps: keep.touches,
+                touches: ReservedList::with_room(alloc, touches)?,
             },
+        })
+    }
+
+    /// An equal core, with the same room taken.
+    pub fn copy(&self, alloc: Global) -> Result<Core, NoMemory>
+        ensures { IfOk result (λ v. v ≡ self.now) }
+    {
+        Ok(Core {
+            state: self.state.copy(alloc)?,
         })
     }
 
@@ -76,6 +98,13 @@ impl Core {
         ensures within { IsGeometry result }
     {
         self.state.shape
+    }
+
+    /// Whose slots they are.
+    pub fn table(&self) -> &SlotTable
+        ensures { result.now ≡ self.now.plan }
+    {
+        &self.state.plan
     }
 
     /// The slot in which the core is.
@@ -139,16 +168,31 @@ impl Core {
 
     /// The requests of the core that were served, by the slot of their fill.
     pub fn rows(&self) -> &[Row]
-        ensures { result.now ≡ self.now.rows.rows }
+        ensures { result.now ≡ self.now.rows.items }
     {
         self.state.rows.as_slice()
+    }
+
+    /// Whether the core keeps its accesses.
+    pub fn keeps(&self) -> bool
+        ensures { result ≡ self.now.keeps }
+    {
+        self.state.keeps
+    }
+
+    /// The core's accesses in the order in which they were done, where they are kept; else none.
+    pub fn touches(&self) -> &[Touch]
+        ensures { result.now ≡ self.now.touches.items }
+    {
+        self.state.touches.as_slice()
     }
 
     /// The phase of the slot.
     pub fn phase(&mut self)
         requires fresh { self.old.phase_done ≡ false }
         requires more { self.old.slot < self.old.shape.slots }
-        ensures { (job : JobValue) (slot c : ℕ) → slot < job.shape.slots → IsPart job slot c self.old → IsPartAfter job slot c self.new }
+        ensures phased { (job : JobValue) (slot c : ℕ) → slot < job.shape.slots → IsPart job slot c self.old → IsPartAfter job slot c self.new }
+        ensures keeps { self.new.keeps ≡ self.old.keeps }
     {
         self.state.phase();
     }
@@ -156,16 +200,19 @@ impl Core {
     /// The core's action in a slot of its own, which ends the slot.
     pub fn act<P: BusPort>(&mut self, bus: &mut P) -> Action
         requires { CanAct self.old (P.side bus.old) }
-        ensures acted { (job : JobValue) (slot c : ℕ) → IsPartAfter job slot c self.old → IsBusPart job slot (P.side bus.old) → IsActed job slot c result self.new (P.side bus.new) }
-        ensures keeps { (P.side bus.new).keeps ≡ (P.side bus.old).keeps }
+        ensures acted { (job : JobValue) (slot c : ℕ) → IsPartAfter job slot c self.old → IsBusPart job slot (P.side bus.old) →
+            IsActed job slot c result self.new (P.side bus.new) }
+        ensures keeps { self.new.keeps ≡ self.old.keeps }
+        ensures bus_keeps { (P.side bus.new).keeps ≡ (P.side bus.old).keeps }
     {
         self.state.act(bus)
     }
 
-    /// The note of the action of another core, which owns the slot. It ends the slot.
+    /// Snoops the action of another core, which owns the slot. It ends the slot.
     pub fn snoop(&mut self, by: u32, action: Action)
         requires { CanSnoop by action self.old }
-        ensures { (job : JobValue) (slot c : ℕ) → IsPartAfter job slot c self.old → owner_of_slot (plan_of job) slot ≡ by → by ≢ c → action ≡ record_at job slot → IsPart job (slot + 1) c self.new }
+        ensures snooped { IsSnooped by action self.old self.new }
+        ensures keeps { self.new.keeps ≡ self.old.keeps }
     {
         self.state.snoop(action);
     }

@@ -1,11 +1,7 @@
 -- The first check that fails, of lists of checks that are joined.
-use Rattle.std.proofs.Common.{◌≡◌, Bool, List, [], ◌∷◌, ◌++◌, Some, None, refl, arith}
+use Rattle.std.proofs.Common.{◌≡◌, List, [], ◌∷◌, ◌++◌, Some, None, refl, arith}
 use Rattle.image_file.specs.declared.fault.ImageFault.{ImageFault}
 use Rattle.image_file.specs.Checks.{Check, first_failing}
-
--- a check by its parts
-by_parts : (P : Check → Type 0) → ((fails : Bool) (fault : ImageFault) → P (record { fails = fails; fault = fault })) → (check : Check) → P check
-by_parts P h check = h check.fails check.fault
 
 pub passes_front : (front back : List Check) → first_failing front ≡ None → first_failing (front ++ back) ≡ first_failing back
 passes_front [] back none = refl

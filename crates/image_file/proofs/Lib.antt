@@ -4,3 +4,4 @@ pub mod Places
 pub mod PieceLoop
 pub mod Images
 pub mod Memory
+pub mod Exports

@@ -1,2 +1,11 @@
-pub mod JobText
-pub mod Reading
+pub mod Cutting
+pub mod Faults
+pub mod Gathering
+pub mod Joining
+pub mod Joins
+pub mod Examples
+pub mod Laws
+pub mod Plans
+pub mod Reads
+pub mod Rows
+pub mod Sayings

@@ -1,42 +1,30 @@
-//! Reads the text of a job. So far the text of one core is read, whose program is given as words; every other text is
-//! `JobFault::NotBuilt`.
+//! Job texts: reads them as plans, prints plans, and makes jobs of a shape and the images of its cores. The first fault of a
+//! text, in a fixed order of steps, is told in place of a plan, and the first fault of the images in place of a job.
 #![tactic(auto)]
 
-ghost use Rattle.std.specs.Prelude.{◌≡◌, ℕ, List, IfOk, IfErr};
-ghost use Rattle.pmsi_model.specs.Job.{JobValue};
-ghost use Rattle.job_text.specs.JobText.{IsTextOf};
-
-mod fault;
-mod heads;
+mod cutting;
+pub mod examples;
+mod gathered;
+mod job_fault;
+mod joining;
+mod judging;
+pub mod laws;
+mod misread;
+mod naming;
+mod numerals;
+mod one_line;
+mod order;
+mod plan;
+mod planning;
+mod printing;
+mod reading;
+mod rows;
+mod saying;
 #[cfg(test)]
 mod tests;
-mod words;
 
-pub use fault::JobFault;
-use heads::heads_of;
-use pmsi_model::{Bytes, Job, WordLists, Words};
-use std::alloc::Global;
-use words::words_of;
-
-/// Reads the text of a job of one core whose program is given as words.
-pub fn read_job(alloc: Global, bytes: &[u8]) -> Result<Job, JobFault>
-    ensures job { IfOk result (λ job. IsTextOf job bytes.now) }
-    ensures not_built { IfErr result (λ e. e ≡ JobFault.NotBuilt → (job : JobValue) → IsTextOf job bytes.now → ⊥) }
-{
-    let Some((shape, rest)) = heads_of(bytes) else {
-        return Err(JobFault::NotBuilt);
-    };
-    if shape.cores != 1 || !shape.is_within_limits() {
-        return Err(JobFault::NotBuilt);
-    }
-    let words = words_of(alloc, rest)?;
-    let mut texts = Vec::with_capacity(alloc, 1)?;
-    texts.push(Words::from_vec(words))?;
-    let start = vec![in alloc; 0; shape.memory as usize]?;
-    Ok(Job::new(shape, WordLists::from_vec(texts), Bytes::from_vec(start)))
-}
-
-/// One text is the text of one job at most.
-pub fn texts_differ()
-    ensures { (job other : JobValue) → (text : List ℕ) → IsTextOf job text → IsTextOf other text → job ≡ other }
-{}
+pub use job_fault::{HeadWord, JobFault, LineCause};
+pub use joining::join_job;
+pub use plan::{JobPlan, Program, Programs};
+pub use printing::print_plan;
+pub use reading::read_plan;

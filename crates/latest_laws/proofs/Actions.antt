@@ -13,7 +13,8 @@ use Rattle.pmsi_model.specs.Machine.{Machine, CoreState, mode_of, without, is_wr
 use Rattle.pmsi_model.specs.Bus.{noted_post, noted_post_in, post_at, post, fill_for, fill, is_core, clear_victim, write_back, kind_of_name, after_action}
 use Rattle.pmsi_model.specs.Run.{want_touch, action_touch}
 use Rattle.latest_laws.proofs.Follows.{follows_none}
-use Rattle.latest_laws.proofs.Accesses.{IsWithin, access_follows}
+use Rattle.pmsi_model.proofs.Accesses.{IsFit}
+use Rattle.latest_laws.proofs.Accesses.{access_follows}
 use Rattle.latest_laws.proofs.Phases.{WantWithin, AllReady, Moves, moves_append, all_ready_after, want_if}
 
 moves_none : (size : ℕ) (x : Machine) → AllReady size x → Moves size x [] x
@@ -53,7 +54,7 @@ posted_want x c kind line = rw (eq-eqb c c refl)
 fill_moves_for : (size : ℕ) (x : Machine) (c : ℕ) (want : Option Want) → AllReady size x → WantWithin size want → Moves size x (want_touch x c want) (fill_for x c want)
 fill_moves_for size x c None h within = moves_none size x h
 fill_moves_for size x c (Some want) h within = record {
-  memory = access_follows x.slot c want.access x.memory h.bytes (subst (λ (n : ℕ). IsWithin n want.access) (sym h.extent) within);
+  memory = access_follows x.slot c want.access x.memory h.bytes (subst (λ (n : ℕ). IsFit n want.access) (sym h.extent) within);
   wants = λ d. want_if (d == c) size _ (x.cores d) tt (h.wants d);
 }
 
@@ -71,7 +72,7 @@ post_fill_moves size x c kind line h =
 
 -- ---- write-back
 
-victim_within : (b : Bool) (size : ℕ) (want : Want) → IsWithin size want.access → IsWithin size (if b then record want { victim = None } else want).access
+victim_within : (b : Bool) (size : ℕ) (want : Want) → IsFit size want.access → IsFit size (if b then record want { victim = None } else want).access
 victim_within true size want h = h
 victim_within false size want h = h
 

@@ -9,15 +9,16 @@ use Rattle.pmsi_model.specs.Effect.{Effect, Next, Memory, Stop}
 use Rattle.pmsi_model.specs.Machine.{Machine, CoreState}
 use Rattle.pmsi_model.specs.Phase.{Context, can_run, effect_at, is_permitted, accessed, missed, after_effect, instruction, instructions, access_if_permitted, touch_list, instruction_touches, context_of, phase, phase_touches, phases, phases_touches}
 use Rattle.latest_laws.proofs.Follows.{Follows, follows_none, follows_append}
-use Rattle.latest_laws.proofs.Accesses.{IsWithin, access_follows}
-use Rattle.latest_laws.proofs.Effects.{EffectWithin, effect_within}
+use Rattle.pmsi_model.proofs.Accesses.{IsFit}
+use Rattle.latest_laws.proofs.Accesses.{access_follows}
+use Rattle.pmsi_model.proofs.Effects.{EffectFits, effect_fits}
 
 -- ---- one core
 
 -- the access of a want is within a memory of this size
 abbrev pub WantWithin : ℕ → Option Want → Type 0
 WantWithin size None = Unit {0}
-WantWithin size (Some want) = IsWithin size want.access
+WantWithin size (Some want) = IsFit size want.access
 
 -- what a core and its memory are to be
 record IsReady (size : ℕ) (x : Context) : Type 0 where
@@ -40,21 +41,21 @@ ready_after : (size : ℕ) (x y : Context) (ts : List Touch) → IsReady size x 
 ready_after size x y ts h f = record { bytes = f.memory.bytes; extent = f.memory.size ∙ h.extent; want = f.want }
 
 -- an access, done at once or missed
-access_goes : (b : Bool) (shape : Geometry) (slot c : ℕ) (access : Access) (x : Context) → IsWithin shape.memory access → IsReady shape.memory x →
+access_goes : (b : Bool) (shape : Geometry) (slot c : ℕ) (access : Access) (x : Context) → IsFit shape.memory access → IsReady shape.memory x →
     Goes shape.memory x (touch_list slot c (if b then Some access else None) x.memory) (if b then accessed shape access x else record x { core = missed shape slot access x.core })
 access_goes true shape slot c access x within h = record {
-  memory = access_follows slot c access x.memory h.bytes (subst (λ (n : ℕ). IsWithin n access) (sym h.extent) within);
+  memory = access_follows slot c access x.memory h.bytes (subst (λ (n : ℕ). IsFit n access) (sym h.extent) within);
   want = h.want;
 }
 access_goes false shape slot c access x within h = record { memory = follows_none x.memory h.bytes; want = within }
 
-effect_goes : (shape : Geometry) (slot c : ℕ) (effect : Effect) (x : Context) → EffectWithin shape.memory effect → IsReady shape.memory x →
+effect_goes : (shape : Geometry) (slot c : ℕ) (effect : Effect) (x : Context) → EffectFits shape.memory effect → IsReady shape.memory x →
     Goes shape.memory x (touch_list slot c (access_if_permitted shape x.core effect) x.memory) (after_effect shape slot effect x)
 effect_goes shape slot c (Next regs pc) x within h = record { memory = follows_none x.memory h.bytes; want = h.want }
 effect_goes shape slot c (Stop halt) x within h = record { memory = follows_none x.memory h.bytes; want = h.want }
 effect_goes shape slot c (Memory access) x within h = access_goes (is_permitted shape access x.core) shape slot c access x within h
 
-run_goes : (b : Bool) (shape : Geometry) (slot c : ℕ) (effect : Effect) (x : Context) → EffectWithin shape.memory effect → IsReady shape.memory x →
+run_goes : (b : Bool) (shape : Geometry) (slot c : ℕ) (effect : Effect) (x : Context) → EffectFits shape.memory effect → IsReady shape.memory x →
     Goes shape.memory x (touch_list slot c (if b then access_if_permitted shape x.core effect else None) x.memory) (if b then after_effect shape slot effect x else x)
 run_goes true shape slot c effect x within h = effect_goes shape slot c effect x within h
 run_goes false shape slot c effect x within h = goes_none shape.memory x h
@@ -62,7 +63,7 @@ run_goes false shape slot c effect x within h = goes_none shape.memory x h
 instruction_goes : (shape : Geometry) (slot c : ℕ) (text : List ℕ) (x : Context) → shape.memory % 4 ≡ 0 → IsReady shape.memory x →
     Goes shape.memory x (touch_list slot c (if can_run x.core then access_if_permitted shape x.core (effect_at shape text x.core) else None) x.memory) (instruction shape slot text x)
 unfolding instruction
-instruction_goes shape slot c text x whole h = run_goes (can_run x.core) shape slot c (effect_at shape text x.core) x (effect_within shape text x.core whole) h
+instruction_goes shape slot c text x whole h = run_goes (can_run x.core) shape slot c (effect_at shape text x.core) x (effect_fits shape text x.core whole) h
 
 instructions_go : (shape : Geometry) (slot c : ℕ) (text : List ℕ) (count : ℕ) (x : Context) → shape.memory % 4 ≡ 0 → IsReady shape.memory x →
     Goes shape.memory x (instruction_touches shape slot c text count x) (instructions shape slot text count x)

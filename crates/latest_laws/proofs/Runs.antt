@@ -2,15 +2,13 @@
 use Rattle.std.proofs.Common.{◌≡◌, ℕ, zero, suc, ◌%◌, List, get_or, subst}
 use Rattle.pmsi_model.specs.declared.Touch.{Touch}
 use Rattle.pmsi_model.specs.Job.{JobValue, IsJob}
-use Rattle.pmsi_model.specs.Slots.{plan_of, owner_of_slot}
 use Rattle.pmsi_model.specs.Machine.{Machine}
 use Rattle.pmsi_model.specs.Phase.{phases_touches}
 use Rattle.pmsi_model.specs.Bus.{action_of, after_action}
-use Rattle.pmsi_model.specs.Run.{start_of, after_phases, slot_done, machine_at, action_touch, slot_touches, touches_of}
-use Rattle.pmsi_model.specs.Latest.{byte_after}
+use Rattle.pmsi_model.specs.Run.{start_of, after_phases, slot_done, machine_at, action_touch, slot_touches, touches_of, slot_owner}
 use Rattle.latest_laws.specs.Laws.{AlwaysReadsLatest}
 use Rattle.latest_laws.proofs.Follows.{Takes, takes_at, follows_none}
-use Rattle.latest_laws.proofs.Effects.{whole_words}
+use Rattle.pmsi_model.proofs.Effects.{whole_words}
 use Rattle.latest_laws.proofs.Phases.{AllReady, Moves, moves_append, all_ready_after, phases_move}
 use Rattle.latest_laws.proofs.Actions.{action_moves}
 
@@ -19,7 +17,7 @@ slot_moves : (job : JobValue) (x : Machine) → job.shape.memory % 4 ≡ 0 → A
 unfolding slot_done
 slot_moves job x whole h =
     let y : Machine = after_phases job x in
-    let c : ℕ = owner_of_slot (plan_of job) x.slot in
+    let c : ℕ = slot_owner job x in
     let z : Machine = after_action y c (action_of job y c) in
     let first : Moves job.shape.memory x (phases_touches job job.shape.cores x) y = phases_move job job.shape.cores x whole h in
     let moves : Moves job.shape.memory x (slot_touches job x) z =
@@ -47,11 +45,6 @@ run_from_start job h slot = run_moves job slot (whole_words job.shape.memory job
 -- at each boundary memory has its size, its bytes are bytes, and each want's access is within it
 pub run_ready : (job : JobValue) → IsJob job → (slot : ℕ) → AllReady job.shape.memory (machine_at job slot)
 run_ready job h slot = all_ready_after job.shape.memory (start_of job) (machine_at job slot) (touches_of job slot) (start_ready job h) (run_from_start job h slot)
-
--- and it is what the accesses left
-pub run_left : (job : JobValue) → IsJob job → (slot at : ℕ) → get_or (machine_at job slot).memory at 0 ≡ byte_after at (get_or job.start at 0) (touches_of job slot)
-unfolding start_of
-run_left job h slot at = (run_from_start job h slot).memory.left at
 
 -- each access took the latest write before it, in the form by recursion
 pub run_takes : (job : JobValue) → IsJob job → (slot : ℕ) → Takes (λ at. get_or job.start at 0) (touches_of job slot)

@@ -3,3 +3,8 @@ pub mod Sums
 pub mod Sixteens
 pub mod Parts
 pub mod WaitLines
+pub mod Advances
+pub mod Joins
+pub mod Merges
+pub mod SlotParts
+pub mod Slots

@@ -1,31 +1,20 @@
--- Texts that grow at the end.
-use Rattle.std.proofs.Common.{◌≡◌, ℕ, ◌+◌, ◌<◌, List, [], ◌∷◌, ◌++◌, length, take, get_or, codes, sym, ap, ◌∙◌, subst, append_assoc, arith, zero-add, add-zero}
-use Rattle.std.proofs.lemmas.List.{append-nil, take_more, length-take-le}
-use Rattle.pmsi_model.specs.Lines.{reg_texts, hex_word, hex_bytes, memory_line}
+-- The parts of lines.
+use Rattle.std.proofs.Common.{◌≡◌, ℕ, ◌+◌, ◌<◌, List, [], ◌∷◌, ◌++◌, length, take, get_or, codes, decimal, refl, sym, ap, ◌∙◌, append_assoc, append-nil, arith, add-zero, zero-add}
+use Rattle.std.proofs.lemmas.List.{take_more, length-take-le}
+use Rattle.pmsi_model.specs.declared.Action.{Action}
+use Rattle.pmsi_model.specs.declared.Touch.{Touch}
+use Rattle.pmsi_model.specs.Slots.{SlotPlan, owner_of_slot}
+use Rattle.pmsi_model.specs.Lines.{reg_texts, hex_word, hex_bytes, memory_line, kind_text, touch_line, action_line, action_lines}
 use Rattle.listing.specs.Regs.{reg_text}
+use Rattle.text_out.proofs.Grown.{grown, IsByPlaces, further}
 
-grow : (a b d e : List ℕ) → e ≡ b ++ d → a ++ e ≡ a ++ b ++ d
-grow a b d e h = ap (λ x. a ++ x) h ∙ sym (append_assoc a b d)
-
--- the texts of one register more
-pub next_reg : (r : ℕ) (values : List ℕ) (value : ℕ) → reg_texts r (values ++ value ∷ []) ≡ reg_texts r values ++ reg_text (r + length values) value
-next_reg r [] value = rw add-zero (append-nil (reg_text r value))
-next_reg r (v ∷ values) value =
-    let P : ℕ → Type 0 = λ n. reg_texts (r + 1) (values ++ value ∷ []) ≡ reg_texts (r + 1) values ++ reg_text n value in
-    let same : r + 1 + length values ≡ r + length (v ∷ values) = omega arith in
-    grow (reg_text r v) (reg_texts (r + 1) values) (reg_text (r + length (v ∷ values)) value) (reg_texts (r + 1) (values ++ value ∷ [])) (subst P same (next_reg (r + 1) values value))
-
-next_taken : (regs : List ℕ) (k : ℕ) → k < length regs → reg_texts 0 (take (k + 1) regs) ≡ reg_texts 0 (take k regs) ++ reg_text k (get_or regs k 0)
-next_taken regs k within =
-    let number : 0 + length (take k regs) ≡ k = zero-add _ ∙ length-take-le k regs (omega arith) in
-    let P : ℕ → Type 0 = λ n. reg_texts 0 (take k regs ++ get_or regs k 0 ∷ []) ≡ reg_texts 0 (take k regs) ++ reg_text n (get_or regs k 0) in
-    ap (λ taken. reg_texts 0 taken) (take_more regs k 0 within) ∙ subst P number (next_reg 0 (take k regs) (get_or regs k 0))
+by_numbers : IsByPlaces reg_texts reg_text
+by_numbers = record { none = λ r. refl; more = λ r value values. refl }
 
 -- the texts of the registers below k, and then that of register k
 pub regs_further : (start before after regs : List ℕ) (k : ℕ) → k < length regs → before ≡ start ++ reg_texts 0 (take k regs) → after ≡ before ++ reg_text k (get_or regs k 0) →
     after ≡ start ++ reg_texts 0 (take (k + 1) regs)
-regs_further start before after regs k within h g =
-    g ∙ ap (λ text. text ++ reg_text k (get_or regs k 0)) h ∙ append_assoc start (reg_texts 0 (take k regs)) (reg_text k (get_or regs k 0)) ∙ ap (λ text. start ++ text) (sym (next_taken regs k within))
+regs_further = further reg_texts reg_text by_numbers
 
 -- the five parts of a line of memory
 five : (old a b c d e one two three : List ℕ) → one ≡ old ++ a ++ b → two ≡ one ++ c → three ≡ two ++ d → three ++ e ≡ old ++ (a ++ b ++ c ++ d ++ e)
@@ -35,3 +24,70 @@ pub memory_parts : (old : List ℕ) (address : ℕ) (bytes one two three : List 
     three ++ codes "\n" ≡ old ++ memory_line address bytes
 unfolding memory_line
 memory_parts old address bytes one two three f g h = five old (codes "mem ") (hex_word address) (codes " ") (hex_bytes bytes) (codes "\n") one two three f g h
+
+-- ---- the line of an access
+
+two_more : (old text before after a b : List ℕ) → before ≡ old ++ text → after ≡ before ++ a ++ b → after ≡ old ++ (text ++ a ++ b)
+two_more old text before after a b h g = grown old (text ++ a) (before ++ a) after b (grown old text before (before ++ a) a h refl) g
+
+-- one piece alone, and seven that follow in ones and twos
+pieces : (old a1 a2 b1 b2 c d e1 e2 f1 f2 g1 g2 h1 h2 last o1 o2 o3 o4 o5 o6 o7 o8 : List ℕ) → o1 ≡ old ++ a1 ++ a2 → o2 ≡ o1 ++ b1 ++ b2 → o3 ≡ o2 ++ c → o4 ≡ o3 ++ d
+    → o5 ≡ o4 ++ e1 ++ e2 → o6 ≡ o5 ++ f1 ++ f2 → o7 ≡ o6 ++ g1 ++ g2 → o8 ≡ o7 ++ h1 ++ h2
+    → o8 ++ last ≡ old ++ (a1 ++ a2 ++ b1 ++ b2 ++ c ++ d ++ e1 ++ e2 ++ f1 ++ f2 ++ g1 ++ g2 ++ h1 ++ h2 ++ last)
+pieces old a1 a2 b1 b2 c d e1 e2 f1 f2 g1 g2 h1 h2 last o1 o2 o3 o4 o5 o6 o7 o8 p1 p2 p3 p4 p5 p6 p7 p8 =
+    let t1 : List ℕ = a1 ++ a2 in
+    let t2 : List ℕ = t1 ++ b1 ++ b2 in
+    let t4 : List ℕ = t2 ++ c ++ d in
+    let t5 : List ℕ = t4 ++ e1 ++ e2 in
+    let t6 : List ℕ = t5 ++ f1 ++ f2 in
+    let t7 : List ℕ = t6 ++ g1 ++ g2 in
+    let t8 : List ℕ = t7 ++ h1 ++ h2 in
+    let s1 : o1 ≡ old ++ t1 = p1 ∙ append_assoc old a1 a2 in
+    let s2 : o2 ≡ old ++ t2 = two_more old t1 o1 o2 b1 b2 s1 p2 in
+    let s3 : o3 ≡ old ++ (t2 ++ c) = grown old t2 o2 o3 c s2 p3 in
+    let s4 : o4 ≡ old ++ t4 = grown old (t2 ++ c) o3 o4 d s3 p4 in
+    let s5 : o5 ≡ old ++ t5 = two_more old t4 o4 o5 e1 e2 s4 p5 in
+    let s6 : o6 ≡ old ++ t6 = two_more old t5 o5 o6 f1 f2 s5 p6 in
+    let s7 : o7 ≡ old ++ t7 = two_more old t6 o6 o7 g1 g2 s6 p7 in
+    let s8 : o8 ≡ old ++ t8 = two_more old t7 o7 o8 h1 h2 s7 p8 in
+    grown old t8 o8 (o8 ++ last) last s8 refl
+
+pub touch_parts : (old : List ℕ) (touch : Touch) (slot core width : ℕ) (kind : List ℕ) (o1 o2 o3 o4 o5 o6 o7 o8 : List ℕ) → slot ≡ touch.slot → core ≡ touch.core → width ≡ touch.width → kind ≡ kind_text touch.kind
+    → o1 ≡ old ++ codes "touch " ++ decimal slot → o2 ≡ o1 ++ codes " core " ++ decimal core → o3 ≡ o2 ++ codes " " → o4 ≡ o3 ++ kind
+    → o5 ≡ o4 ++ codes " " ++ decimal width → o6 ≡ o5 ++ codes " " ++ hex_word touch.address → o7 ≡ o6 ++ codes " " ++ hex_word touch.old
+    → o8 ≡ o7 ++ codes " " ++ hex_word touch.new → o8 ++ codes "\n" ≡ old ++ touch_line touch
+unfolding touch_line
+touch_parts old touch slot core width kind o1 o2 o3 o4 o5 o6 o7 o8 e1 e2 e3 e4 p1 p2 p3 p4 p5 =
+    pieces old (codes "touch ") (decimal touch.slot) (codes " core ") (decimal touch.core) (codes " ") (kind_text touch.kind) (codes " ") (decimal touch.width)
+    (codes " ") (hex_word touch.address) (codes " ") (hex_word touch.old) (codes " ") (hex_word touch.new) (codes "\n") o1 o2 o3 o4 o5 o6 o7 o8
+    (p1 ∙ ap (λ (n : ℕ). old ++ codes "touch " ++ decimal n) e1) (p2 ∙ ap (λ (n : ℕ). o1 ++ codes " core " ++ decimal n) e2) p3 (p4 ∙ ap (λ (x : List ℕ). o3 ++ x) e4)
+    (p5 ∙ ap (λ (n : ℕ). o4 ++ codes " " ++ decimal n) e3)
+
+-- ---- the lines of actions
+
+action_last : (plan : SlotPlan) (slot : ℕ) (actions : List Action) (action : Action)
+    → action_lines plan slot (actions ++ action ∷ []) ≡ action_lines plan slot actions ++ action_line (slot + length actions) (owner_of_slot plan (slot + length actions)) action
+unfolding action_lines
+action_last plan slot [] action = rw add-zero (append-nil _)
+action_last plan slot (a ∷ actions) action =
+    let first : List ℕ = action_line slot (owner_of_slot plan slot) a in
+    let same : slot + 1 + length actions ≡ slot + length (a ∷ actions) = omega arith in
+    ap (λ (text : List ℕ). first ++ text) (action_last plan (slot + 1) actions action)
+    ∙ ap (λ (n : ℕ). first ++ (action_lines plan (slot + 1) actions ++ action_line n (owner_of_slot plan n) action)) same
+    ∙ sym (append_assoc first (action_lines plan (slot + 1) actions) _)
+
+pub no_actions : (plan : SlotPlan) (start : List ℕ) → start ≡ start ++ action_lines plan 0 []
+unfolding action_lines
+no_actions plan start = sym (append-nil start)
+
+-- the lines of the actions before a slot, and then that of this one
+pub actions_further : (plan : SlotPlan) (actions : List Action) (slot owner : ℕ) (action other : Action) (start before after : List ℕ) → slot < length actions
+    → owner ≡ owner_of_slot plan slot → action ≡ get_or actions slot other → before ≡ start ++ action_lines plan 0 (take slot actions) → after ≡ before ++ action_line slot owner action
+    → after ≡ start ++ action_lines plan 0 (take (slot + 1) actions)
+actions_further plan actions slot owner action other start before after within by is h g =
+    let size : 0 + length (take slot actions) ≡ slot = zero-add _ ∙ length-take-le slot actions (omega arith) in
+    grown start (action_lines plan 0 (take slot actions)) before after (action_line slot (owner_of_slot plan slot) (get_or actions slot other)) h
+    (g ∙ ap (λ (n : ℕ). before ++ action_line slot n action) by ∙ ap (λ (a : Action). before ++ action_line slot (owner_of_slot plan slot) a) is)
+    ∙ ap (λ (n : ℕ). start ++ (action_lines plan 0 (take slot actions) ++ action_line n (owner_of_slot plan n) (get_or actions slot other))) (sym size)
+    ∙ ap (λ (text : List ℕ). start ++ text) (sym (action_last plan 0 (take slot actions) (get_or actions slot other)))
+    ∙ ap (λ (acts : List Action). start ++ action_lines plan 0 acts) (sym (take_more actions slot other within))

@@ -4,7 +4,6 @@ use Rattle.std.specs.List.{filter}
 use Rattle.pmsi_model.specs.declared.Row.{Row}
 use Rattle.pmsi_model.specs.Lines.{waits_line, waits_of}
 use Rattle.pmsi_model.specs.Listing.{waits_texts}
-use Rattle.pmsi_model.specs.Rows.{wait_of}
 
 -- a core's rows among its own
 own_waits : (c : ℕ) (rows : List Row) → waits_of c (filter (λ row. row.core == c) rows) ≡ waits_of c rows

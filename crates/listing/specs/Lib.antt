@@ -1,2 +1,5 @@
 pub mod Regs
 pub mod Waits
+pub mod Rests
+pub mod Pieces
+pub mod Asked

@@ -1,11 +1,15 @@
 //! The head of a listing, and the three lines of a core.
-ghost use Rattle.std.specs.Prelude.{◌≡◌, ℕ, ◌++◌, codes, OnOk};
-ghost use Rattle.pmsi_model.specs.Lines.{shape_line, halt_text, status_text, core_line, regs_line, mode_text, held_text};
+ghost use Rattle.std.specs.Prelude.{◌≡◌, ℕ, ◌++◌, codes, slice_get, OnOk};
+ghost use Rattle.std.specs.List.{flat_map};
+ghost use Rattle.std.specs.Option.{option_to_list};
+ghost use Rattle.pmsi_model.specs.Lines.{shape_line, halt_text, status_text, core_line, regs_line, mode_text, held_text, held_line};
+ghost use Rattle.cache_array.specs.Cache.{held_of};
 ghost use Rattle.listing.specs.Regs.{reg_text};
 
-use crate::text::{push_field, push_hex_field, push_number, push_text};
+use cache_array::CacheArray;
 use pmsi_model::{Geometry, Halt, Mode, Status};
 use std::alloc::AllocError;
+use text_out::{push_field, push_hex_field, push_newline, push_text};
 
 /// Appends the line of a machine's shape.
 #[tactic(auto, unfolding(pmsi_model::specs::Lines::shape_line))]
@@ -19,7 +23,7 @@ pub fn push_shape_line(out: &mut Vec<u8>, shape: &Geometry) -> Result<(), AllocE
     push_field(out, " ways ", u64::from(shape.ways))?;
     push_field(out, " memory ", u64::from(shape.memory))?;
     push_field(out, " slots ", u64::from(shape.slots))?;
-    push_text(out, "\n")
+    push_newline(out)
 }
 
 fn push_halt(out: &mut Vec<u8>, halt: Halt) -> Result<(), AllocError>
@@ -61,7 +65,7 @@ pub fn push_core_line(
     push_field(out, " retired ", retired)?;
     push_text(out, " ")?;
     push_status(out, status)?;
-    push_text(out, "\n")
+    push_newline(out)
 }
 
 /// Appends a register of a core, unless it is 0.
@@ -84,7 +88,7 @@ pub fn push_regs_line(out: &mut Vec<u8>, regs: &[u32]) -> Result<(), AllocError>
     for (number, value) in regs.iter().enumerate() {
         push_reg(out, number, *value)?;
     }
-    push_text(out, "\n")
+    push_newline(out)
 }
 
 fn mode_name(mode: Mode) -> &'static str
@@ -97,9 +101,30 @@ fn mode_name(mode: Mode) -> &'static str
 }
 
 /// Appends one held line of a core, with its mode.
-pub fn push_held(out: &mut Vec<u8>, line: u32, mode: Mode) -> Result<(), AllocError>
+fn push_held(out: &mut Vec<u8>, line: u32, mode: Mode) -> Result<(), AllocError>
     ensures { OnOk result (out.new.items ≡ out.old.items ++ held_text (line, mode)) }
 {
     push_field(out, " ", u64::from(line))?;
     push_text(out, mode_name(mode))
+}
+
+/// Appends the line at a place of a cache, if there is one.
+fn push_held_at(out: &mut Vec<u8>, cache: &CacheArray, place: u32) -> Result<(), AllocError>
+    ensures { OnOk result (out.new.items ≡ out.old.items ++ flat_map held_text (option_to_list (slice_get (held_of cache.now.lines) place))) }
+{
+    match cache.held(place) {
+        Some((line, mode)) => push_held(out, line, mode),
+        None => Ok(()),
+    }
+}
+
+/// Appends the third line of a core: the lines that its cache holds, the most recently used first.
+pub fn push_held_line(out: &mut Vec<u8>, cache: &CacheArray) -> Result<(), AllocError>
+    ensures { OnOk result (out.new.items ≡ out.old.items ++ held_line (held_of cache.now.lines)) }
+{
+    push_text(out, "held")?;
+    for place in 0..cache.held_count() {
+        push_held_at(out, cache, place)?;
+    }
+    push_newline(out)
 }

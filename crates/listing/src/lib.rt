@@ -3,18 +3,17 @@
 #![tactic(auto)]
 
 mod cores;
+mod histories;
 mod memory;
+mod merge;
 mod requests;
+mod rests;
 mod sections;
-mod text;
 mod waits;
 mod whole;
 
-pub use cores::{push_core_line, push_held, push_regs_line, push_shape_line};
-pub use memory::push_sixteen;
-pub use requests::{push_open_row_line, push_row_line, wait_of};
-pub use text::{push_field, push_hex, push_hex_bytes, push_hex_field, push_number, push_text};
-pub use waits::{Waits, push_bound_line, push_waits, push_waits_line, waits_of};
+pub use cores::{push_core_line, push_held_line, push_regs_line, push_shape_line};
+pub use waits::{push_bound_line, push_waits_line};
 pub use whole::listing;
 
 #[cfg(test)]

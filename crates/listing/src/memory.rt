@@ -4,8 +4,8 @@ ghost use Rattle.std.specs.List.{list_all};
 ghost use Rattle.pmsi_model.specs.Lines.{memory_line};
 ghost use Rattle.pmsi_model.specs.Listing.{sixteen_text};
 
-use crate::text::{push_hex_bytes, push_hex_field, push_text};
 use std::alloc::AllocError;
+use text_out::{push_hex_bytes, push_hex_field, push_newline, push_text};
 
 #[tactic(auto, unfolding(pmsi_model::specs::Lines::memory_line))]
 fn push_memory_line(out: &mut Vec<u8>, address: u32, bytes: &[u8]) -> Result<(), AllocError>
@@ -14,7 +14,7 @@ fn push_memory_line(out: &mut Vec<u8>, address: u32, bytes: &[u8]) -> Result<(),
     push_hex_field(out, "mem ", address)?;
     push_text(out, " ")?;
     push_hex_bytes(out, bytes)?;
-    push_text(out, "\n")
+    push_newline(out)
 }
 
 fn is_zero(bytes: &[u8]) -> bool

@@ -1,13 +1,14 @@
 //! The lines of requests.
 ghost use Rattle.std.specs.Prelude.{◌≡◌, ◌≤◌, ◌^◌, ◌++◌, OnOk};
+ghost use Rattle.std.specs.List.{flat_map};
 ghost use Rattle.pmsi_model.specs.Lines.{kind_text, post_text, row_line, open_row_line};
 ghost use Rattle.pmsi_model.specs.Rows.{wait_of};
 
-use crate::text::{push_field, push_number, push_text};
 use pmsi_model::{Kind, OpenRow, Row};
 use std::alloc::AllocError;
+use text_out::{push_field, push_newline, push_number, push_text};
 
-fn kind_name(kind: Kind) -> &'static str
+pub fn kind_name(kind: Kind) -> &'static str
     ensures { result.now ≡ kind_text kind }
 {
     match kind {
@@ -26,7 +27,7 @@ pub fn wait_of(row: &Row) -> u64
 
 /// Appends the line of a request that was served.
 #[tactic(auto, unfolding(pmsi_model::specs::Lines::row_line))]
-pub fn push_row_line(out: &mut Vec<u8>, row: &Row) -> Result<(), AllocError>
+fn push_row_line(out: &mut Vec<u8>, row: &Row) -> Result<(), AllocError>
     ensures { OnOk result (out.new.items ≡ out.old.items ++ row_line row.now) }
 {
     push_field(out, "row core ", u64::from(row.core))?;
@@ -37,7 +38,17 @@ pub fn push_row_line(out: &mut Vec<u8>, row: &Row) -> Result<(), AllocError>
     push_field(out, " post ", u64::from(row.post))?;
     push_field(out, " fill ", u64::from(row.fill))?;
     push_field(out, " wait ", wait_of(row))?;
-    push_text(out, "\n")
+    push_newline(out)
+}
+
+/// Appends a line for each request that was served.
+pub fn push_row_lines(out: &mut Vec<u8>, rows: &[Row]) -> Result<(), AllocError>
+    ensures { OnOk result (out.new.items ≡ out.old.items ++ flat_map row_line rows.now) }
+{
+    for row in rows {
+        push_row_line(out, row)?;
+    }
+    Ok(())
 }
 
 /// Appends the slot of a post, or a dash.
@@ -63,5 +74,5 @@ pub fn push_open_row_line(out: &mut Vec<u8>, slot: u32, row: &OpenRow) -> Result
     push_text(out, " post ")?;
     push_post(out, row.post)?;
     push_field(out, " age ", u64::from(slot.saturating_sub(row.issue)))?;
-    push_text(out, "\n")
+    push_newline(out)
 }

@@ -1,65 +1,42 @@
 //! The sections of a listing: each function appends one, of the machine that a `Sim` is.
-ghost use Rattle.std.specs.Prelude.{◌≡◌, ℕ, ◌+◌, ◌*◌, ◌/◌, ◌%◌, ◌<◌, ◌≤◌, ◌++◌, slice_get, OnOk};
+ghost use Rattle.std.specs.Prelude.{◌≡◌, ℕ, ◌+◌, ◌/◌, ◌%◌, ◌<◌, ◌≤◌, ◌++◌, OnOk};
 ghost use Rattle.std.specs.List.{flat_map};
-ghost use Rattle.std.specs.Option.{option_to_list};
-ghost use Rattle.pmsi_model.specs.declared.limits.TheConstants.{MAX_CORES};
+ghost use Rattle.core_unit.specs.State.{core_of};
 ghost use Rattle.pmsi_model.specs.Job.{JobValue};
-ghost use Rattle.pmsi_model.specs.Slots.{bound_of};
-ghost use Rattle.pmsi_model.specs.Lines.{held_text, held_line, row_line, open_row_line};
-ghost use Rattle.pmsi_model.specs.Listing.{core_text, core_texts, memory_texts, waits_texts};
+ghost use Rattle.pmsi_model.specs.Lines.{open_row_line};
+ghost use Rattle.pmsi_model.specs.Listing.{core_text, core_texts, memory_texts, trace_text, waits_texts};
 ghost use Rattle.pmsi_model.specs.Phase.{bytes_from};
 ghost use Rattle.pmsi_model.specs.Run.{machine_at};
 ghost use Rattle.pmsi_model.specs.Rows.{rows_of, open_row_of, open_rows_in, option_list};
 ghost use Rattle.sim_serial.specs.Sims.{IsSimOf, shape_of};
+ghost use Rattle.listing.specs.Asked.{KeepsAsked};
 
-use crate::cores::{push_core_line, push_held, push_regs_line};
+use crate::cores::{push_core_line, push_held_line, push_regs_line};
+use crate::histories::push_action_lines;
 use crate::memory::push_sixteen;
-use crate::requests::{push_open_row_line, push_row_line};
-use crate::text::push_text;
+use crate::requests::push_open_row_line;
 use crate::waits::push_waits_line;
-use pmsi_model::Row;
+use core_unit::Core;
+use pmsi_model::Keep;
 use sim_serial::Sim;
 use std::alloc::AllocError;
 
-/// Appends the line at a place of a core's held list, if there is one.
-fn push_held_at(out: &mut Vec<u8>, sim: &Sim, c: u32, place: u32) -> Result<(), AllocError>
-    requires { c < (shape_of sim.now).cores }
-    ensures { (job : JobValue) (slot : ℕ) → IsSimOf job slot sim.now → OnOk result (out.new.items ≡ out.old.items ++ flat_map held_text (option_to_list (slice_get ((machine_at job slot).cores c).held place))) }
-{
-    match sim.held(c, place) {
-        Some((line, mode)) => push_held(out, line, mode),
-        None => Ok(()),
-    }
-}
-
-/// Appends the third line of a core: the lines that it holds.
-fn push_held_line(out: &mut Vec<u8>, sim: &Sim, c: u32) -> Result<(), AllocError>
-    requires { c < (shape_of sim.now).cores }
-    ensures { (job : JobValue) (slot : ℕ) → IsSimOf job slot sim.now → OnOk result (out.new.items ≡ out.old.items ++ held_line ((machine_at job slot).cores c).held) }
-{
-    push_text(out, "held")?;
-    for place in 0..sim.held_count(c) {
-        push_held_at(out, sim, c, place)?;
-    }
-    push_text(out, "\n")
-}
-
 /// Appends the three lines of a core.
-fn push_core(out: &mut Vec<u8>, sim: &Sim, c: u32) -> Result<(), AllocError>
-    requires { c < (shape_of sim.now).cores }
-    ensures { (job : JobValue) (slot : ℕ) → IsSimOf job slot sim.now → OnOk result (out.new.items ≡ out.old.items ++ core_text c ((machine_at job slot).cores c)) }
+fn push_core(out: &mut Vec<u8>, c: u32, core: &Core) -> Result<(), AllocError>
+    ensures { OnOk result (out.new.items ≡ out.old.items ++ core_text c (core_of core.now)) }
 {
-    push_core_line(out, c, sim.pc(c), sim.retired(c), sim.status(c))?;
-    push_regs_line(out, sim.regs(c))?;
-    push_held_line(out, sim, c)
+    push_core_line(out, c, core.pc(), core.retired(), core.status())?;
+    push_regs_line(out, core.regs())?;
+    push_held_line(out, core.cache())
 }
 
 /// Appends the lines of all cores.
 pub fn push_cores(out: &mut Vec<u8>, sim: &Sim) -> Result<(), AllocError>
-    ensures { (job : JobValue) (slot : ℕ) → IsSimOf job slot sim.now → OnOk result (out.new.items ≡ out.old.items ++ core_texts (machine_at job slot) (shape_of sim.now).cores) }
+    ensures { (job : JobValue) (slot : ℕ) → IsSimOf job slot sim.now →
+        OnOk result (out.new.items ≡ out.old.items ++ core_texts (machine_at job slot) (shape_of sim.now).cores) }
 {
     for c in 0..sim.shape().cores {
-        push_core(out, sim, c)?;
+        push_core(out, c, sim.core(c))?;
     }
     Ok(())
 }
@@ -82,7 +59,8 @@ fn sixteen(sim: &Sim, address: u32) -> [u8; 16]
 
 /// Appends the lines of memory.
 pub fn push_memory(out: &mut Vec<u8>, sim: &Sim) -> Result<(), AllocError>
-    ensures { (job : JobValue) (slot : ℕ) → IsSimOf job slot sim.now → OnOk result (out.new.items ≡ out.old.items ++ memory_texts (machine_at job slot).memory ((shape_of sim.now).memory / 16)) }
+    ensures { (job : JobValue) (slot : ℕ) → IsSimOf job slot sim.now →
+        OnOk result (out.new.items ≡ out.old.items ++ memory_texts (machine_at job slot).memory ((shape_of sim.now).memory / 16)) }
 {
     for i in 0..sim.shape().memory / 16 {
         push_sixteen(out, 16 * i, sixteen(sim, 16 * i).as_slice())?;
@@ -90,28 +68,11 @@ pub fn push_memory(out: &mut Vec<u8>, sim: &Sim) -> Result<(), AllocError>
     Ok(())
 }
 
-/// Appends a line for each request that was served.
-fn push_row_lines(out: &mut Vec<u8>, rows: &[Row]) -> Result<(), AllocError>
-    ensures { OnOk result (out.new.items ≡ out.old.items ++ flat_map row_line rows.now) }
-{
-    for row in rows {
-        push_row_line(out, row)?;
-    }
-    Ok(())
-}
-
-/// Appends the requests that were served, by the slot of their fill.
-pub fn push_rows(out: &mut Vec<u8>, sim: &Sim) -> Result<(), AllocError>
-    requires one_core { (shape_of sim.now).cores ≡ 1 }
-    ensures { (job : JobValue) (slot : ℕ) → IsSimOf job slot sim.now → OnOk result (out.new.items ≡ out.old.items ++ flat_map row_line (rows_of job slot)) }
-{
-    push_row_lines(out, sim.rows(0))
-}
-
 /// Appends the request of a core that is open, if there is one.
 fn push_open_row(out: &mut Vec<u8>, sim: &Sim, c: u32) -> Result<(), AllocError>
     requires { c < (shape_of sim.now).cores }
-    ensures { (job : JobValue) (slot : ℕ) → IsSimOf job slot sim.now → OnOk result (out.new.items ≡ out.old.items ++ flat_map (open_row_line slot) (option_list (open_row_of c ((machine_at job slot).cores c).want))) }
+    ensures { (job : JobValue) (slot : ℕ) → IsSimOf job slot sim.now →
+        OnOk result (out.new.items ≡ out.old.items ++ flat_map (open_row_line slot) (option_list (open_row_of c ((machine_at job slot).cores c).want))) }
 {
     match sim.open_row(c) {
         Some(row) => push_open_row_line(out, sim.slot(), &row),
@@ -121,7 +82,8 @@ fn push_open_row(out: &mut Vec<u8>, sim: &Sim, c: u32) -> Result<(), AllocError>
 
 /// Appends the requests that are open, by core.
 pub fn push_open_rows(out: &mut Vec<u8>, sim: &Sim) -> Result<(), AllocError>
-    ensures { (job : JobValue) (slot : ℕ) → IsSimOf job slot sim.now → OnOk result (out.new.items ≡ out.old.items ++ flat_map (open_row_line slot) (open_rows_in (machine_at job slot) (shape_of sim.now).cores)) }
+    ensures { (job : JobValue) (slot : ℕ) → IsSimOf job slot sim.now →
+        OnOk result (out.new.items ≡ out.old.items ++ flat_map (open_row_line slot) (open_rows_in (machine_at job slot) (shape_of sim.now).cores)) }
 {
     for c in 0..sim.shape().cores {
         push_open_row(out, sim, c)?;
@@ -131,7 +93,8 @@ pub fn push_open_rows(out: &mut Vec<u8>, sim: &Sim) -> Result<(), AllocError>
 
 /// Appends the lines of waits, by core.
 pub fn push_waits_lines(out: &mut Vec<u8>, sim: &Sim) -> Result<(), AllocError>
-    ensures { (job : JobValue) (slot : ℕ) → IsSimOf job slot sim.now → OnOk result (out.new.items ≡ out.old.items ++ waits_texts (rows_of job slot) (shape_of sim.now).cores) }
+    ensures { (job : JobValue) (slot : ℕ) → IsSimOf job slot sim.now →
+        OnOk result (out.new.items ≡ out.old.items ++ waits_texts (rows_of job slot) (shape_of sim.now).cores) }
 {
     for c in 0..sim.shape().cores {
         push_waits_line(out, c, sim.rows(c))?;
@@ -139,11 +102,13 @@ pub fn push_waits_lines(out: &mut Vec<u8>, sim: &Sim) -> Result<(), AllocError>
     Ok(())
 }
 
-/// The bound on a request's wait: with N cores 2N(N + 1)^2 slots.
-pub fn bound(cores: u32) -> u64
-    requires { cores ≤ MAX_CORES }
-    ensures { result ≡ bound_of (record { cores = cores }) }
+/// Appends the actions of all slots, where they are asked for.
+pub fn push_trace(out: &mut Vec<u8>, sim: &Sim, keep: Keep) -> Result<(), AllocError>
+    requires { KeepsAsked keep sim.now }
+    ensures { (job : JobValue) → IsSimOf job job.shape.slots sim.now → OnOk result (out.new.items ≡ out.old.items ++ trace_text job keep) }
 {
-    let n = u64::from(cores);
-    2 * n * (n + 1).pow(2)
+    if !keep.trace {
+        return Ok(());
+    }
+    push_action_lines(out, sim.bus().table(), sim.bus().trace())
 }

@@ -6,16 +6,16 @@ ghost use Rattle.pmsi_model.specs.Lines.{waits_of, waits_line, bound_line};
 ghost use Rattle.listing.specs.Waits.{IsOf};
 
 use crate::requests::wait_of;
-use crate::text::{push_field, push_text};
 use pmsi_model::Row;
 use std::alloc::AllocError;
+use text_out::{push_field, push_newline};
 
 /// How many waits there are, the greatest of them, and their sum.
-#[derive(Clone, Copy, Debug, PartialEq, Eq)]
-pub struct Waits {
-    pub count: u64,
-    pub greatest: u64,
-    pub sum: u64,
+#[derive(Clone, Copy)]
+struct Waits {
+    count: u64,
+    greatest: u64,
+    sum: u64,
 }
 
 impl Waits {
@@ -39,7 +39,7 @@ impl Waits {
 }
 
 /// The waits of a core's requests that were served.
-pub fn waits_of(rows: &[Row], core: u32) -> Waits
+fn waits_of(rows: &[Row], core: u32) -> Waits
     requires { length rows.now ≤ MAX_SLOTS }
     ensures { IsOf (waits_of core rows.now) result }
 {
@@ -56,17 +56,17 @@ pub fn waits_of(rows: &[Row], core: u32) -> Waits
 
 /// Appends a core's line of waits.
 #[tactic(auto, unfolding(pmsi_model::specs::Lines::waits_line))]
-pub fn push_waits(out: &mut Vec<u8>, core: u32, waits: Waits) -> Result<(), AllocError>
+fn push_waits(out: &mut Vec<u8>, core: u32, waits: Waits) -> Result<(), AllocError>
     ensures { (list : List ℕ) → IsOf list waits → OnOk result (out.new.items ≡ out.old.items ++ waits_line core list) }
 {
     push_field(out, "waits ", u64::from(core))?;
     push_field(out, " count ", waits.count)?;
     push_field(out, " greatest ", waits.greatest)?;
     push_field(out, " sum ", waits.sum)?;
-    push_text(out, "\n")
+    push_newline(out)
 }
 
-/// Appends the line of a core's waits.
+/// Appends the line of a core's waits, in slots: those of its requests that were served.
 pub fn push_waits_line(out: &mut Vec<u8>, core: u32, rows: &[Row]) -> Result<(), AllocError>
     requires { length rows.now ≤ MAX_SLOTS }
     ensures { OnOk result (out.new.items ≡ out.old.items ++ waits_line core (waits_of core rows.now)) }
@@ -79,5 +79,5 @@ pub fn push_bound_line(out: &mut Vec<u8>, bound: u64) -> Result<(), AllocError>
     ensures { OnOk result (out.new.items ≡ out.old.items ++ bound_line bound) }
 {
     push_field(out, "bound ", bound)?;
-    push_text(out, "\n")
+    push_newline(out)
 }

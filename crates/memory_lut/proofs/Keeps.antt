@@ -7,6 +7,7 @@ use Rattle.std.proofs.lemmas.List.{get_or_past}
 use Rattle.std.specs.Prelude.{slice_index_or, slice_set}
 use Rattle.std.proofs.lemmas.List.Elements.{All-nil, All-cons, All-append, All-filter}
 use Rattle.pmsi_model.specs.declared.Kind.{Kind}
+use Rattle.pmsi_model.specs.declared.limits.TheConstants.{MAX_CORES}
 use Rattle.pmsi_model.specs.Machine.{Request, is_write, request_of}
 use Rattle.pmsi_model.specs.Shared.{SharedValue, IsShared, IsLine, CanPost, CanWriteBack, owner_in, with_request, without_request, written_back}
 use Rattle.pmsi_model.proofs.Cases.{by_test}
@@ -26,7 +27,7 @@ none_past count (r ∷ rs) below c past =
     grind (arith, other, none_past count rs (all_later (λ (r : Request). r.core < count) r rs below) c past)
 
 -- a core that posts finds room
-pub room_to_post : (m : SharedValue) (c line : ℕ) → IsShared m → c < m.shape.cores → CanPost c line m → length m.posted < 16
+pub room_to_post : (m : SharedValue) (c line : ℕ) → IsShared m → c < m.shape.cores → CanPost c line m → length m.posted < MAX_CORES
 room_to_post m c line is below can =
     let fits = requests_below m.shape.cores m.posted c is.once (none_past m.shape.cores m.posted is.cores) below can.unposted in
     let most = is.shape.cores in

@@ -3,14 +3,14 @@ ghost use Rattle.std.specs.Prelude.{◌≡◌, ℕ, ◌/◌, ◌%◌, ◌<◌, [
 ghost use Rattle.std.specs.Option.{option_map};
 ghost use Rattle.pmsi_model.specs.Geometry.{IsGeometry};
 ghost use Rattle.pmsi_model.specs.Machine.{Request, first_of, ahead, request_of, removed};
+ghost use Rattle.pmsi_model.specs.Named.{behind_of};
 ghost use Rattle.pmsi_model.specs.Shared.{IsShared, CanPost, CanWriteBack, owner_in, line_in, is_ready, behind_in, with_request, filled, written_back};
 ghost use Rattle.pmsi_model.specs.Parts.{word_at};
 
 use crate::owners::Owners;
 use crate::requests::Requests;
 use crate::words::MemoryWords;
-use arrayvec::ArrayVec;
-use pmsi_model::{Behind, Geometry, Kind, NoMemory};
+use pmsi_model::{Behind, Geometry, Kind, LineWords, NoMemory};
 use std::alloc::Global;
 use std::marker::Model;
 
@@ -96,6 +96,20 @@ impl SharedMemory {
         Some(self.requests.ahead(core, entry.line))
     }
 
+    /// What is queued for a line.
+    pub fn queued(&self, line: u32) -> Behind
+        ensures { result ≡ behind_in line self.now.posted }
+    {
+        self.requests.queued(line)
+    }
+
+    /// What is queued for a line behind a core's request: nothing where the core has none.
+    pub fn behind(&self, core: u32, line: u32) -> Behind
+        ensures { result ≡ behind_in line (behind_of core self.now.posted) }
+    {
+        self.requests.behind(core, line)
+    }
+
     /// The word at an address.
     pub fn word(&self, address: u32) -> u32
         requires aligned { address % 4 ≡ 0 }
@@ -116,7 +130,7 @@ impl SharedMemory {
     }
 
     /// Serves the request of a core: `words` becomes the line's words. The answer is what is left in the line's queue.
-    pub fn fill(&mut self, core: u32, words: &mut ArrayVec<u32, 16>) -> Behind
+    pub fn fill(&mut self, core: u32, words: &mut LineWords) -> Behind
         requires core { core < self.old.shape.cores }
         requires ready { is_ready self.old core ≡ true }
         ensures after { self.new ≡ filled core self.old }
@@ -131,7 +145,7 @@ impl SharedMemory {
         self.owners.serve(core, entry.line, entry.kind);
         self.words
             .copy_line(entry.line, self.shape.line_words as usize, words);
-        self.requests.behind(entry.line)
+        self.requests.queued(entry.line)
     }
 
     /// The owner of a line writes it back, and nobody owns it any more.

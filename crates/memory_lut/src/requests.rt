@@ -1,12 +1,15 @@
 //! The posted requests, in posting order.
 ghost use Rattle.std.specs.Prelude.{◌≡◌, ◌<◌, ◌≤◌, ◌∷◌, ◌++◌, [], ◌==◌, ◌&&◌, length, Option, None, Some, option_map, position};
 ghost use Rattle.std.specs.List.{find, list_any};
+ghost use Rattle.pmsi_model.specs.declared.limits.TheConstants.{MAX_CORES};
 ghost use Rattle.pmsi_model.specs.Machine.{is_write, first_of, ahead, request_of, removed};
 ghost use Rattle.pmsi_model.specs.Bus.{is_core};
 ghost use Rattle.pmsi_model.specs.Coherent.{RequestsOnce};
+ghost use Rattle.pmsi_model.specs.Named.{behind_of};
 ghost use Rattle.pmsi_model.specs.Shared.{behind_in};
 
 use arrayvec::ArrayVec;
+use pmsi_model::limits::CORES_ROOM;
 use pmsi_model::{Behind, Kind};
 use std::marker::Model;
 
@@ -39,10 +42,10 @@ impl Default for Entry {
     }
 }
 
-/// A list in a room of 16.
+/// The posted requests, in a room for one of each core.
 #[derive(Drop)]
 pub struct Requests {
-    items: ArrayVec<Entry, 16>,
+    items: ArrayVec<Entry, CORES_ROOM>,
 }
 
 impl Model for Requests {
@@ -56,7 +59,7 @@ impl Model for Requests {
 
 /// How many requests for a line stand before the core's.
 fn ahead_in(entries: &[Entry], core: u32, line: u32) -> u32
-    requires { length entries.now ≤ 16 }
+    requires { length entries.now ≤ MAX_CORES }
     ensures { result ≡ ahead core line entries.now }
 {
     let mut count = 0;
@@ -111,6 +114,29 @@ fn place_of(entries: &[Entry], core: u32) -> Option<usize>
     entries.iter().position(|entry| entry.core == core)
 }
 
+/// The requests that stand behind a core's.
+fn behind_core(entries: &[Entry], core: u32) -> &[Entry]
+    ensures { result.now ≡ behind_of core entries.now }
+{
+    match place_of(entries, core) {
+        Some(place) => &entries[place + 1..],
+        None => &[],
+    }
+}
+
+/// What is queued for a line.
+fn queued_in(entries: &[Entry], line: u32) -> Behind
+    ensures { result ≡ behind_in line entries.now }
+{
+    if has_write_in(entries, line) {
+        Behind::Write
+    } else if has_request_in(entries, line) {
+        Behind::Reads
+    } else {
+        Behind::Nobody
+    }
+}
+
 impl Requests {
     pub fn new() -> Requests
         ensures { result ≡ [] }
@@ -122,7 +148,7 @@ impl Requests {
 
     /// The request goes last.
     pub fn push(&mut self, core: u32, line: u32, kind: Kind)
-        requires { length self.old < 16 }
+        requires { length self.old < MAX_CORES }
         ensures { self.new ≡ self.old ++ record { core = core; line = line; kind = kind } ∷ [] }
     {
         self.items.push(Entry { core, line, kind });
@@ -160,17 +186,17 @@ impl Requests {
     }
 
     /// What is queued for a line.
-    pub fn behind(&self, line: u32) -> Behind
+    pub fn queued(&self, line: u32) -> Behind
         ensures { result ≡ behind_in line self.now }
     {
-        let entries = self.items.as_slice();
-        if has_write_in(entries, line) {
-            Behind::Write
-        } else if has_request_in(entries, line) {
-            Behind::Reads
-        } else {
-            Behind::Nobody
-        }
+        queued_in(self.items.as_slice(), line)
+    }
+
+    /// What is queued for a line behind a core's request.
+    pub fn behind(&self, core: u32, line: u32) -> Behind
+        ensures { result ≡ behind_in line (behind_of core self.now) }
+    {
+        queued_in(behind_core(self.items.as_slice(), core), line)
     }
 
     /// Takes the request of a core away.

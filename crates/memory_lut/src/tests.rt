@@ -1,6 +1,5 @@
 use crate::SharedMemory;
-use arrayvec::ArrayVec;
-use pmsi_model::{Behind, Geometry, Kind};
+use pmsi_model::{Behind, Geometry, Kind, LineWords};
 
 #[test]
 fn serves_a_line_in_posting_order(rt: HostRuntime) {
@@ -18,7 +17,7 @@ fn serves_a_line_in_posting_order(rt: HostRuntime) {
     let Ok(mut memory) = SharedMemory::new(rt.alloc(), shape, &start) else {
         panic!(rt; "no memory")
     };
-    let mut words = ArrayVec::new();
+    let mut words = LineWords::new();
     memory.post(0, 2, Kind::Write);
     memory.post(1, 2, Kind::Read);
     assert_eq!(rt; memory.ahead(1), Some(1));

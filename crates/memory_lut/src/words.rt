@@ -1,10 +1,10 @@
 //! The words of shared memory, lowest address first.
 ghost use Rattle.std.specs.Prelude.{◌≡◌, ℕ, ◌+◌, ◌*◌, ◌%◌, ◌<◌, ◌≤◌, ◌++◌, take, drop, length, slice_index, IfOk};
+ghost use Rattle.pmsi_model.specs.declared.limits.TheConstants.{MAX_LINE_WORDS};
 ghost use Rattle.pmsi_model.specs.Words.{number_of};
 ghost use Rattle.pmsi_model.specs.Parts.{word_at};
 
-use arrayvec::ArrayVec;
-use pmsi_model::NoMemory;
+use pmsi_model::{LineWords, NoMemory};
 use std::alloc::Global;
 use std::marker::Model;
 
@@ -52,8 +52,8 @@ impl MemoryWords {
     }
 
     /// Copies the words of a line, of so many each.
-    pub fn copy_line(&self, line: u32, count: usize, words: &mut ArrayVec<u32, 16>)
-        requires few { count ≤ 16 }
+    pub fn copy_line(&self, line: u32, count: usize, words: &mut LineWords)
+        requires few { count ≤ MAX_LINE_WORDS }
         requires within { (line + 1) * count ≤ length self.now }
         ensures { words.new.items ≡ take count (drop (line * count) self.now) }
     {
@@ -66,7 +66,7 @@ impl MemoryWords {
 
     /// The line gets these words.
     pub fn write_line(&mut self, line: u32, words: &[u32])
-        requires few { length words.now ≤ 16 }
+        requires few { length words.now ≤ MAX_LINE_WORDS }
         requires within { (line + 1) * length words.now ≤ length self.old }
         ensures { self.new ≡ take (line * length words.now) self.old ++ words.now ++ drop ((line + 1) * length words.now) self.old }
     {

@@ -56,6 +56,7 @@ impl Pending {
         }
     }
 
+    /// An equal value, in a room of its own.
     pub fn copy(&self) -> Pending
         ensures { result ≡ self.now }
     {
@@ -90,12 +91,14 @@ impl Pending {
         }
     }
 
+    /// The want; None where the core waits for no line.
     pub fn want(&self) -> Option<Want>
         ensures { result ≡ self.now.want }
     {
         self.want
     }
 
+    /// Begins a want, where none stands.
     pub fn set_want(&mut self, want: Want)
         requires { self.old.want ≡ None }
         ensures { self.new ≡ record self.old { want = Some want } }
@@ -184,6 +187,7 @@ impl Pending {
         self.write_backs.pop()
     }
 
+    /// Which of request and write-back goes first in the next own slot, where both are possible.
     pub fn turn(&self) -> Turn
         ensures { result ≡ self.now.turn }
     {

@@ -1,17 +1,19 @@
 //! The lines that a core has to write back, in order.
 ghost use Rattle.std.specs.Prelude.{◌≡◌, ◌<◌, [], ◌∷◌, ◌++◌, length, IfSome, is_some};
 ghost use Rattle.arrayvec.specs.ArrayVec.{array_vec_len};
+ghost use Rattle.pmsi_model.specs.declared.limits.TheConstants.{MAX_CORES};
 ghost use Rattle.pmsi_model.specs.Bus.{can_write_back};
 ghost use Rattle.pmsi_model.specs.Machine.{has_line};
 ghost use Rattle.pend_buffers.specs.Pending.{first_in, place_in};
 
 use arrayvec::ArrayVec;
+use pmsi_model::limits::CORES_ROOM;
 use std::marker::Model;
 
 /// A queue of lines in a fixed room.
 #[derive(Drop)]
 pub struct LineQueue {
-    items: ArrayVec<u32, 16>,
+    items: ArrayVec<u32, CORES_ROOM>,
 }
 
 impl Model for LineQueue {
@@ -32,6 +34,7 @@ fn place_of(lines: &[u32], line: u32) -> Option<usize>
 }
 
 impl LineQueue {
+    /// No lines. There is room for one line per core of the greatest bus.
     pub fn new() -> LineQueue
         ensures { result ≡ [] }
     {
@@ -40,6 +43,7 @@ impl LineQueue {
         }
     }
 
+    /// An equal queue, in a room of its own.
     pub fn copy(&self) -> LineQueue
         ensures { result ≡ self.now }
     {
@@ -50,18 +54,21 @@ impl LineQueue {
         LineQueue { items }
     }
 
+    /// Whether there is a line.
     pub fn is_waiting(&self) -> bool
         ensures { result ≡ can_write_back self.now }
     {
         !self.items.is_empty()
     }
 
+    /// Whether the line is in the queue.
     pub fn has(&self, line: u32) -> bool
         ensures { result ≡ has_line line self.now }
     {
         self.items.as_slice().contains(&line)
     }
 
+    /// The line that has been in the queue longest; None where there is none.
     pub fn first(&self) -> Option<u32>
         ensures { result ≡ first_in self.now }
     {
@@ -78,7 +85,7 @@ impl LineQueue {
 
     /// The line goes last.
     pub fn push(&mut self, line: u32)
-        requires { length self.old < 16 }
+        requires { length self.old < MAX_CORES }
         ensures { self.new ≡ self.old ++ line ∷ [] }
     {
         self.items.push(line);

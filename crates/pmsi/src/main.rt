@@ -1,8 +1,8 @@
 //! The program: its words, the files of the disk and the standard streams go to `tool`, and it ends with the status number.
 #![tactic(auto)]
 
-use pmsi_outside::{DiskFiles, StdSink, write_whole};
-use pmsi_tool::{ToolStatus, tool};
+use pmsi_outside::{DiskFiles, StdSink};
+use pmsi_tool::{ToolStatus, tell_no_memory, tool};
 use std::alloc::AllocError;
 use std::env;
 use std::process::ExitCode;
@@ -28,10 +28,7 @@ fn run(rt: &HostRuntime) -> ToolStatus {
             &mut StdSink::new(rt.stdout()),
             &mut StdSink::new(rt.stderr()),
         ),
-        Err(AllocError) => {
-            let _ = write_whole(&mut StdSink::new(rt.stderr()), b"no memory\n");
-            ToolStatus::NoMemory
-        }
+        Err(AllocError) => tell_no_memory(&mut StdSink::new(rt.stderr())),
     }
 }
 

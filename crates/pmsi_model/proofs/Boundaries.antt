@@ -1,9 +1,10 @@
 -- The machine from one boundary to the next.
-use Rattle.std.proofs.Common.{arith, ◌≡◌, ℕ, zero, suc, ◌+◌, refl, ◌∙◌, add-one}
+use Rattle.std.proofs.Common.{arith, ◌≡◌, ℕ, zero, suc, ◌+◌, [], ◌∷◌, ◌++◌, refl, ◌∙◌, add-one}
 use Rattle.pmsi_model.specs.Job.{JobValue}
 use Rattle.pmsi_model.specs.Machine.{Machine}
 use Rattle.pmsi_model.specs.Phase.{phase, phases}
-use Rattle.pmsi_model.specs.Run.{start_of, slot_done, machine_at}
+use Rattle.pmsi_model.specs.Run.{start_of, slot_done, machine_at, record_at, records, slot_touches, touches_of}
+use Rattle.pmsi_model.specs.Rows.{slot_rows, rows_of}
 
 pub first_machine : (job : JobValue) → machine_at job 0 ≡ start_of job
 unfolding machine_at
@@ -25,6 +26,19 @@ machine_at-slot job (suc slot) =
     let before : (machine_at job slot).slot ≡ slot = machine_at-slot job slot in
     let last : (slot_done job (machine_at job slot)).slot ≡ (machine_at job slot).slot + 1 = slot_done-slot job (machine_at job slot) in
     omega arith
+
+-- the actions, the completed requests and the accesses of one more slot
+pub next_records : (job : JobValue) (slot : ℕ) → records job (slot + 1) ≡ records job slot ++ record_at job slot ∷ []
+unfolding records
+next_records job slot = rw add-one refl
+
+pub next_rows : (job : JobValue) (slot : ℕ) → rows_of job (slot + 1) ≡ rows_of job slot ++ slot_rows job (machine_at job slot) (record_at job slot)
+unfolding rows_of
+next_rows job slot = rw add-one refl
+
+pub next_touches : (job : JobValue) (slot : ℕ) → touches_of job (slot + 1) ≡ touches_of job slot ++ slot_touches job (machine_at job slot)
+unfolding touches_of
+next_touches job slot = rw add-one refl
 
 -- a phase stays in its slot, and posts nothing
 pub phase-slot : (job : JobValue) (c : ℕ) (x : Machine) → (phase job c x).slot ≡ x.slot

@@ -4,7 +4,7 @@ use Rattle.std.proofs.lemmas.List.{length-set, length-take-le, length-drop, get_
 use Rattle.std.proofs.lemmas.List.Elements.{All-nil, All-cons, All-head, All-tail, All-take, All-drop, All-set}
 use Rattle.std.proofs.lemmas.Bool.Decides.{nat_tests}
 use Rattle.std.proofs.lemmas.Nat.{mod_below, div_below}
-use Rattle.std.proofs.Math.Nat.{div-div-eq-div-mul, pow-suc, pow-succ', zero-div, div-one}
+use Rattle.std.proofs.Math.Nat.{div-div-eq-div-mul, pow-suc, pow-succ', zero-div}
 use Rattle.pmsi_model.specs.Words.{number_of, bytes_of}
 use Rattle.pmsi_model.specs.Phase.{bytes_from, with_bytes}
 use Rattle.pmsi_model.specs.Latest.{byte_of}
@@ -21,9 +21,6 @@ byte_of_first byte n h = omega arith
 pub byte_of_next : (n place : ℕ) → byte_of n (suc place) ≡ byte_of (n / 256) place
 byte_of_next n place = ap (λ (d : ℕ). n / d % 256) (pow-succ' 256 place) ∙ ap (λ (q : ℕ). q % 256) (sym (div-div-eq-div-mul n 256 (256 ^ place)))
 
-pub byte_of_below : (n place : ℕ) → byte_of n place < 256
-byte_of_below n place = mod_below (n / 256 ^ place) 256 (omega arith)
-
 rest_of : (byte n : ℕ) → byte < 256 → (byte + 256 * n) / 256 ≡ n
 rest_of byte n h = omega arith
 
@@ -38,13 +35,6 @@ byte_of_number_of (byte ∷ bytes) (suc place) h = byte_of_next (byte + 256 * nu
     ∙ ap (λ (n : ℕ). byte_of n place) (rest_of byte (number_of bytes) (All-head (λ b. b < 256) byte bytes h))
     ∙ byte_of_number_of bytes place (All-tail (λ b. b < 256) byte bytes h)
 
--- so many bytes spell a number below that power of 256
-pub number_of_below : (bytes : List ℕ) → All (λ byte. byte < 256) bytes → number_of bytes < 256 ^ length bytes
-number_of_below [] h = omega arith
-number_of_below (byte ∷ bytes) h = let first : byte < 256 = All-head (λ b. b < 256) byte bytes h in
-    let others : number_of bytes < 256 ^ length bytes = number_of_below bytes (All-tail (λ b. b < 256) byte bytes h) in
-    omega (arith, pow-succ' 256 (length bytes))
-
 pub length-bytes_of : (count n : ℕ) → length (bytes_of count n) ≡ count
 length-bytes_of zero n = refl
 length-bytes_of (suc count) n = ap suc (length-bytes_of count (n / 256))
@@ -53,11 +43,6 @@ length-bytes_of (suc count) n = ap suc (length-bytes_of count (n / 256))
 pub bytes_of_below : (count n : ℕ) → All (λ byte. byte < 256) (bytes_of count n)
 bytes_of_below zero n = All-nil (λ b. b < 256)
 bytes_of_below (suc count) n = All-cons (λ b. b < 256) (n % 256) (bytes_of count (n / 256)) (mod_below n 256 (omega arith)) (bytes_of_below count (n / 256))
-
-pub get_or-bytes_of : (count n place : ℕ) → place < count → get_or (bytes_of count n) place 0 ≡ byte_of n place
-get_or-bytes_of zero n place h = absurd (omega arith)
-get_or-bytes_of (suc count) n zero h = ap (λ (q : ℕ). q % 256) (sym (div-one n))
-get_or-bytes_of (suc count) n (suc place) h = get_or-bytes_of count (n / 256) place (omega arith) ∙ sym (byte_of_next n place)
 
 -- to bytes and back, and back to bytes
 pub number_of-bytes_of : (count n : ℕ) → n < 256 ^ count → number_of (bytes_of count n) ≡ n

@@ -34,10 +34,6 @@ phase-memory job c x = refl
 
 -- ---- post
 
-pub post-slot : (x : Machine) (c : ℕ) (kind : Kind) (line : ℕ) → (post x c kind line).slot ≡ x.slot
-unfolding post
-post-slot x c kind line = refl
-
 pub post-memory : (x : Machine) (c : ℕ) (kind : Kind) (line : ℕ) → (post x c kind line).memory ≡ x.memory
 unfolding post
 post-memory x c kind line = refl
@@ -77,15 +73,6 @@ noted_in-turn kind line (Some Modified) k = refl
 
 pub noted-turn : (kind : Kind) (line : ℕ) (k : CoreState) → (noted_post kind line k).turn ≡ k.turn
 noted-turn kind line k = noted_in-turn kind line (mode_of line k.held) k
-
-noted_in-status : (kind : Kind) (line : ℕ) (mode : Option Mode) (k : CoreState) → (noted_post_in kind line mode k).status ≡ k.status
-noted_in-status kind line None k = refl
-noted_in-status Read line (Some Shared) k = refl
-noted_in-status Write line (Some Shared) k = refl
-noted_in-status kind line (Some Modified) k = refl
-
-pub noted-status : (kind : Kind) (line : ℕ) (k : CoreState) → (noted_post kind line k).status ≡ k.status
-noted-status kind line k = noted_in-status kind line (mode_of line k.held) k
 
 -- what it holds, and what it has to write back
 noted_in-mode : (kind : Kind) (line l : ℕ) (mode : Option Mode) (k : CoreState) → mode_of line k.held ≡ mode
@@ -135,14 +122,6 @@ pub fill-want : (x : Machine) (c : ℕ) (want : Want) → (x.cores c).want ≡ S
 unfolding fill
 fill-want x c want is = ap (fill_for x c) is
 
-fill_for-slot : (x : Machine) (c : ℕ) (want : Option Want) → (fill_for x c want).slot ≡ x.slot
-fill_for-slot x c None = refl
-fill_for-slot x c (Some want) = refl
-
-pub fill-slot : (x : Machine) (c : ℕ) → (fill x c).slot ≡ x.slot
-unfolding fill
-fill-slot x c = fill_for-slot x c (x.cores c).want
-
 pub fill-memory : (x : Machine) (c : ℕ) (want : Want) → (x.cores c).want ≡ Some want → (fill x c).memory ≡ memory_after want.access x.memory
 fill-memory x c want is = ap (λ (y : Machine). y.memory) (fill-want x c want is)
 
@@ -170,10 +149,6 @@ written_core line kept k = record k {
   write_backs = drop 1 k.write_backs;
   turn = RequestTurn;
 }
-
-pub write_back-slot : (x : Machine) (c line : ℕ) (kept : Bool) → (write_back x c line kept).slot ≡ x.slot
-unfolding write_back
-write_back-slot x c line kept = refl
 
 pub write_back-memory : (x : Machine) (c line : ℕ) (kept : Bool) → (write_back x c line kept).memory ≡ x.memory
 unfolding write_back

@@ -3,9 +3,10 @@ use Rattle.std.proofs.Common.{inl, ◌≡◌, ◌≢◌, ◌⊎◌, ℕ, ◌+◌
 use Rattle.std.specs.List.{last_or}
 use Rattle.pmsi_model.specs.declared.job.Geometry.{Geometry}
 use Rattle.pmsi_model.specs.declared.Mode.{Mode}
+use Rattle.pmsi_model.specs.declared.Mode.TheVariants.{Shared, Modified}
 use Rattle.pmsi_model.specs.Geometry.{set_of}
 use Rattle.pmsi_model.specs.Machine.{mode_of, without, to_front, with_mode}
-use Rattle.pmsi_model.specs.Phase.{set_lines, evicted}
+use Rattle.pmsi_model.specs.Phase.{set_lines, evicted, touched_line, drop_shared}
 use Rattle.pmsi_model.specs.Coherent.{HoldsEachOnce}
 
 pub mode_without : (l line : ℕ) (hs : List (ℕ × Mode)) → mode_of l (without line hs) ≡ (if l == line then None else mode_of l hs)
@@ -51,7 +52,30 @@ pub count_to_front : (shape : Geometry) (l line : ℕ) (m : Mode) (hs : List (�
     → length (set_lines shape l (to_front line m hs)) ≡ (if set_of shape line == set_of shape l then 1 else 0) + length (set_lines shape l (without line hs))
 count_to_front shape l line m hs = grind arith
 
+-- ---- a line that an access uses
+
+pub touched_mode : (line l : ℕ) (mode : Option Mode) (held : List (ℕ × Mode)) → mode_of line held ≡ mode
+    → mode_of l (touched_line mode line held) ≡ mode_of l held
+touched_mode line l None held is = refl
+touched_mode line l (Some mode) held is = grind (arith, mode_to_front l line mode held)
+
+pub touched_once : (line : ℕ) (mode : Option Mode) (held : List (ℕ × Mode)) → HoldsEachOnce held → HoldsEachOnce (touched_line mode line held)
+touched_once line None held once = once
+touched_once line (Some mode) held once = once_to_front line mode held once
+
 -- ---- the line that a miss evicts
+
+-- each line is held as before or not at all
+pub dropped_less : (l : ℕ) (gone : Option (ℕ × Mode)) (held : List (ℕ × Mode))
+    → (mode_of l (drop_shared gone held) ≡ mode_of l held) ⊎ (mode_of l (drop_shared gone held) ≡ None)
+dropped_less l None held = inl refl
+dropped_less l (Some (gone, Shared)) held = grind (arith, mode_without l gone held)
+dropped_less l (Some (gone, Modified)) held = inl refl
+
+pub dropped_once : (gone : Option (ℕ × Mode)) (held : List (ℕ × Mode)) → HoldsEachOnce held → HoldsEachOnce (drop_shared gone held)
+dropped_once None held once = once
+dropped_once (Some (gone, Shared)) held once = once_without gone held once
+dropped_once (Some (gone, Modified)) held once = once
 
 last_some : (h : ℕ × Mode) (hs : List (ℕ × Mode)) → last_or (Some h) hs ≢ None
 last_some h [] = grind arith

@@ -1,4 +1,7 @@
+pub mod Numbers
 pub mod Bytes
+pub mod Accesses
+pub mod Effects
 pub mod Queues
 pub mod Encodings
 pub mod Worked
@@ -9,3 +12,6 @@ pub mod Requests
 pub mod Boundaries
 pub mod Owners
 pub mod Changes
+pub mod OwnSlots
+pub mod Distances
+pub mod Spreads

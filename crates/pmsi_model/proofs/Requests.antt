@@ -101,22 +101,6 @@ pub ahead_more : (c line : ℕ) (rs : List Request) (r q : Request) → request_
 ahead_more c line [] r q is = grind arith
 ahead_more c line (x ∷ rs) r q is = grind (arith, ahead_more c line rs r q)
 
--- a new request has all those of its line ahead
-pub ahead_new : (line : ℕ) (rs : List Request) (r : Request) → request_of r.core rs ≡ None
-    → ahead r.core line (rs ++ r ∷ []) ≡ ahead r.core line rs
-ahead_new line [] r none = grind arith
-ahead_new line (x ∷ rs) r none = grind (arith, ahead_new line rs r)
-
--- none is ahead of the first
-pub ahead_first : (c line : ℕ) (rs : List Request) → first_of line rs ≡ Some c → ahead c line rs ≡ 0
-ahead_first c line [] first = refl
-ahead_first c line (x ∷ rs) first = grind (arith, ahead_first c line rs)
-
-pub ahead_zero : (c line : ℕ) (rs : List Request) (r : Request) → request_of c rs ≡ Some r → r.line ≡ line → ahead c line rs ≡ 0
-    → first_of line rs ≡ Some c
-ahead_zero c line [] r is at none = grind arith
-ahead_zero c line (x ∷ rs) r is at none = grind (arith, ahead_zero c line rs r)
-
 -- when the first is removed one fewer is ahead
 pub ahead_less : (c d line : ℕ) (rs : List Request) (r : Request) → RequestsOnce rs → first_of line rs ≡ Some d → d ≢ c
     → request_of c rs ≡ Some r → r.line ≡ line → ahead c line rs ≡ ahead c line (removed d rs) + 1

@@ -1,5 +1,6 @@
 -- What the readers of lines to write back say after each change.
-use Rattle.std.proofs.Common.{◌≡◌, ℕ, ◌+◌, ◌≤◌, List, [], ◌∷◌, ◌++◌, length, true, false, ◌==◌, ◌||◌, refl, arith}
+use Rattle.std.proofs.Common.{◌≡◌, ℕ, ◌+◌, ◌≤◌, List, [], ◌∷◌, ◌++◌, length, true, false, not, ◌==◌, ◌&&◌, ◌||◌, refl, arith}
+use Rattle.std.specs.List.{filter}
 use Rattle.pmsi_model.specs.Machine.{has_line, append_once}
 use Rattle.pmsi_model.specs.Coherent.{ListsEachOnce}
 use Rattle.pmsi_model.specs.Waiting.{place_of}
@@ -21,6 +22,19 @@ once_append_once line lines once = grind (arith, once_more line lines once)
 pub line_kept : (l : ℕ) (lines more : List ℕ) → has_line l lines ≡ true → has_line l (lines ++ more) ≡ true
 line_kept l [] more has = absurd (grind arith)
 line_kept l (x ∷ lines) more has = grind (arith, line_kept l lines more)
+
+-- ---- lines without one of them
+
+abbrev pub without_line : ℕ → List ℕ → List ℕ
+without_line line lines = filter (λ l. not (l == line)) lines
+
+pub line_less : (l line : ℕ) (lines : List ℕ) → has_line l (without_line line lines) ≡ (has_line l lines && not (l == line))
+line_less l line [] = refl
+line_less l line (x ∷ lines) = grind (arith, line_less l line lines)
+
+pub lines_once_less : (line : ℕ) (lines : List ℕ) → ListsEachOnce lines → ListsEachOnce (without_line line lines)
+lines_once_less line [] once = once
+lines_once_less line (x ∷ lines) once = grind (arith, line_less x line lines, lines_once_less line lines once.1)
 
 -- ---- places
 

@@ -40,6 +40,10 @@ abbrev pub IsPostedBy : ℕ → ℕ → Option ℕ → Type 0
 IsPostedBy slot issue None = Unit {0}
 IsPostedBy slot issue (Some post) = (issue ≤ post) × (post < slot)
 
+-- core c wants this
+abbrev pub HasWant : Machine → ℕ → Want → Type 0
+HasWant x c want = (x.cores c).want ≡ Some want
+
 pub record IsCoherent (shape : Geometry) (x : Machine) : Type 0 where
   -- a line that one core owns is held by no other, in either mode
   pub owned_alone : (c d line : ℕ) → mode_in x c line ≡ Some Modified → d ≢ c → mode_in x d line ≡ None
@@ -60,19 +64,19 @@ pub record IsCoherent (shape : Geometry) (x : Machine) : Type 0 where
   -- no core owns a line that it has a request for
   pub posted_unowned : (c : ℕ) (r : Request) → request_of c x.posted ≡ Some r → mode_in x c r.line ≢ Some Modified
   -- a core doesn't hold the line that it wants to read, nor own the line that it wants to write
-  pub read_unheld : (c : ℕ) (want : Want) → (x.cores c).want ≡ Some want → want.kind ≡ Read → mode_in x c want.line ≡ None
-  pub write_unowned : (c : ℕ) (want : Want) → (x.cores c).want ≡ Some want → want.kind ≡ Write → mode_in x c want.line ≢ Some Modified
+  pub read_unheld : (c : ℕ) (want : Want) → HasWant x c want → want.kind ≡ Read → mode_in x c want.line ≡ None
+  pub write_unowned : (c : ℕ) (want : Want) → HasWant x c want → want.kind ≡ Write → mode_in x c want.line ≢ Some Modified
   -- a victim is owned and to be written back; it is another line of the set of the wanted one, whose want is unposted
-  pub victim_owned : (c : ℕ) (want : Want) (victim : ℕ) → (x.cores c).want ≡ Some want → want.victim ≡ Some victim → mode_in x c victim ≡ Some Modified
-  pub victim_waits : (c : ℕ) (want : Want) (victim : ℕ) → (x.cores c).want ≡ Some want → want.victim ≡ Some victim → has_line victim (x.cores c).write_backs ≡ true
-  pub victim_of_set : (c : ℕ) (want : Want) (victim : ℕ) → (x.cores c).want ≡ Some want → want.victim ≡ Some victim → set_of shape victim ≡ set_of shape want.line
-  pub victim_other : (c : ℕ) (want : Want) (victim : ℕ) → (x.cores c).want ≡ Some want → want.victim ≡ Some victim → victim ≢ want.line
-  pub victim_unposted : (c : ℕ) (want : Want) (victim : ℕ) → (x.cores c).want ≡ Some want → want.victim ≡ Some victim → want.post ≡ None
+  pub victim_owned : (c : ℕ) (want : Want) (victim : ℕ) → HasWant x c want → want.victim ≡ Some victim → mode_in x c victim ≡ Some Modified
+  pub victim_waits : (c : ℕ) (want : Want) (victim : ℕ) → HasWant x c want → want.victim ≡ Some victim → has_line victim (x.cores c).write_backs ≡ true
+  pub victim_of_set : (c : ℕ) (want : Want) (victim : ℕ) → HasWant x c want → want.victim ≡ Some victim → set_of shape victim ≡ set_of shape want.line
+  pub victim_other : (c : ℕ) (want : Want) (victim : ℕ) → HasWant x c want → want.victim ≡ Some victim → victim ≢ want.line
+  pub victim_unposted : (c : ℕ) (want : Want) (victim : ℕ) → HasWant x c want → want.victim ≡ Some victim → want.post ≡ None
   -- a wanted line is held, or its set has room, or there is a victim
-  pub want_has_room : (c : ℕ) (want : Want) → (x.cores c).want ≡ Some want →
+  pub want_has_room : (c : ℕ) (want : Want) → HasWant x c want →
       (mode_in x c want.line ≢ None) ⊎ ((length (set_lines shape want.line (x.cores c).held) < shape.ways) ⊎ (want.victim ≢ None))
   -- a want began in an earlier slot, and was posted in an earlier slot, not before it began
-  pub want_issued : (c : ℕ) (want : Want) → (x.cores c).want ≡ Some want → want.issue < x.slot
-  pub want_posted : (c : ℕ) (want : Want) → (x.cores c).want ≡ Some want → IsPostedBy x.slot want.issue want.post
+  pub want_issued : (c : ℕ) (want : Want) → HasWant x c want → want.issue < x.slot
+  pub want_posted : (c : ℕ) (want : Want) → HasWant x c want → IsPostedBy x.slot want.issue want.post
   -- a core that wants something runs
-  pub want_runs : (c : ℕ) (want : Want) → (x.cores c).want ≡ Some want → (x.cores c).status ≡ Running
+  pub want_runs : (c : ℕ) (want : Want) → HasWant x c want → (x.cores c).status ≡ Running

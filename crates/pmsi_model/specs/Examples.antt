@@ -3,12 +3,15 @@ use Rattle.std.specs.Prelude.{pos, negsuc, slice_set, ◌++◌, codes, ◌≡◌
 use Rattle.pmsi_model.specs.declared.job.Geometry.{Geometry}
 use Rattle.pmsi_model.specs.declared.Action.TheVariants.{Idle, Post, Fill, PostFill, Back}
 use Rattle.pmsi_model.specs.declared.Halt.TheVariants.{Exit, JumpMisaligned, Misaligned, Range}
+use Rattle.pmsi_model.specs.declared.Keep.{Keep}
 use Rattle.pmsi_model.specs.declared.Kind.{Kind}
 use Rattle.pmsi_model.specs.declared.Kind.TheVariants.{Read, Write}
 use Rattle.pmsi_model.specs.declared.Mode.{Mode}
 use Rattle.pmsi_model.specs.declared.Mode.TheVariants.{Shared, Modified}
 use Rattle.pmsi_model.specs.declared.Name.TheVariants.{GetS, GetM, Upg}
 use Rattle.pmsi_model.specs.declared.Row.{Row}
+use Rattle.pmsi_model.specs.declared.State.{State}
+use Rattle.pmsi_model.specs.declared.State.TheVariants.{I, S, ISD, ISDI, IMD, MSWB, MIWB}
 use Rattle.pmsi_model.specs.declared.Status.{Status}
 use Rattle.pmsi_model.specs.declared.Status.TheVariants.{Running, Halted}
 use Rattle.pmsi_model.specs.declared.Touch.{Touch}
@@ -26,6 +29,7 @@ use Rattle.pmsi_model.specs.Run.{machine_at, records, touches_of}
 use Rattle.pmsi_model.specs.Rows.{rows_of, open_rows_of, wait_of, age_of}
 use Rattle.pmsi_model.specs.Waiting.{slots_left}
 use Rattle.pmsi_model.specs.Listing.{listing_of}
+use Rattle.pmsi_model.specs.Named.{state_of}
 
 -- ---- instructions
 
@@ -76,6 +80,13 @@ small cores ways slots = record { cores = cores; quantum = 1; line_words = 4; se
 abbrev pub job_of : Geometry → List (List ℕ) → JobValue
 job_of shape texts = record { shape = shape; texts = texts; start = replicate 64 0 }
 
+-- no history is asked for, or both are
+abbrev pub keep_neither : Keep
+keep_neither = record { trace = false; touches = false }
+
+abbrev pub keep_both : Keep
+keep_both = record { trace = true; touches = true }
+
 -- ---- what is read off a run
 
 -- the numbers of a list that aren't 0, each with its place
@@ -109,6 +120,10 @@ row core line kind issue post fill = record { core = core; line = line; kind = k
 abbrev pub touch : ℕ → ℕ → Kind → ℕ → ℕ → ℕ → Touch
 touch slot core kind address old new = record { slot = slot; core = core; address = address; width = 4; kind = kind; old = old; new = new }
 
+-- the state of line 0 in a core at a boundary
+abbrev pub state_at : JobValue → ℕ → ℕ → State
+state_at job slot c = state_of (machine_at job slot) c 0
+
 abbrev pub left_at : JobValue → ℕ → ℕ → Option ℕ
 left_at job slot c = slots_left (plan_of job) (machine_at job slot) c
 
@@ -126,7 +141,7 @@ pub record AddsAndExits : Type 0 where
   pub rows : rows_of adds_and_exits 4 ≡ []
   pub open_rows : open_rows_of adds_and_exits 4 ≡ []
   pub bound : bound_of (plan_of adds_and_exits) ≡ 8
-  pub listing : listing_of adds_and_exits ≡
+  pub listing : listing_of adds_and_exits keep_neither ≡
       codes "pmsi listing 1\n"
       ++ codes "cores 1 quantum 1 line 4 sets 1 ways 1 memory 64 slots 4\n"
       ++ codes "core 0 pc 0x00000004 retired 1 exit 0\n"
@@ -153,7 +168,7 @@ abbrev pub stores_and_loads : JobValue
 stores_and_loads = job_of (small 1 1 4) ((addi_x5_7 ∷ sw_x5_0 ∷ lw_x6_0 ∷ ecall ∷ []) ∷ [])
 
 pub record StoresAndLoads : Type 0 where
-  pub listing : listing_of stores_and_loads ≡
+  pub listing : listing_of stores_and_loads keep_neither ≡
       codes "pmsi listing 1\n"
       ++ codes "cores 1 quantum 1 line 4 sets 1 ways 1 memory 64 slots 4\n"
       ++ codes "core 0 pc 0x0000000c retired 3 exit 0\n"
@@ -183,7 +198,7 @@ pub record TwoWriters : Type 0 where
   pub left_0 : map (λ slot. left_at two_writers slot 0) (2 ∷ 3 ∷ 4 ∷ []) ≡ Some 25 ∷ Some 5 ∷ Some 3 ∷ []
   pub left_1 : map (λ slot. left_at two_writers slot 1) (2 ∷ 3 ∷ 4 ∷ []) ≡ None ∷ None ∷ None ∷ []
   pub bound : bound_of (plan_of two_writers) ≡ 36
-  pub listing : listing_of two_writers ≡
+  pub listing : listing_of two_writers keep_both ≡
       codes "pmsi listing 1\n"
       ++ codes "cores 2 quantum 1 line 4 sets 1 ways 1 memory 64 slots 6\n"
       ++ codes "core 0 pc 0x00000008 retired 2 exit 0\n"
@@ -198,6 +213,14 @@ pub record TwoWriters : Type 0 where
       ++ codes "waits 0 count 1 greatest 4 sum 4\n"
       ++ codes "waits 1 count 1 greatest 1 sum 1\n"
       ++ codes "bound 36\n"
+      ++ codes "slot 0 core 0 idle\n"
+      ++ codes "slot 1 core 1 postfill GetM 0\n"
+      ++ codes "slot 2 core 0 post GetM 0\n"
+      ++ codes "slot 3 core 1 back 0 drop\n"
+      ++ codes "slot 4 core 0 fill 0\n"
+      ++ codes "slot 5 core 1 idle\n"
+      ++ codes "touch 1 core 1 write 4 0x00000000 0x00000000 0x00000007\n"
+      ++ codes "touch 4 core 0 write 4 0x00000000 0x00000007 0x00000007\n"
       ++ codes "end\n"
 
 -- ---- the same job, cut off while a request is open
@@ -211,7 +234,7 @@ pub record OpenAtTheEnd : Type 0 where
   pub rows : rows_of open_at_the_end 4 ≡ row 1 0 Write 1 1 1 ∷ []
   pub open_rows : open_rows_of open_at_the_end 4 ≡ record { core = 0; line = 0; kind = Write; issue = 1; post = Some 2 } ∷ []
   pub ages : map (age_of 4) (open_rows_of open_at_the_end 4) ≡ 3 ∷ []
-  pub listing : listing_of open_at_the_end ≡
+  pub listing : listing_of open_at_the_end keep_neither ≡
       codes "pmsi listing 1\n"
       ++ codes "cores 2 quantum 1 line 4 sets 1 ways 1 memory 64 slots 4\n"
       ++ codes "core 0 pc 0x00000004 retired 1 running\n"
@@ -239,6 +262,8 @@ pub record ReaderBehindAnOwner : Type 0 where
   pub core_1 : core_at_end reader_behind_an_owner 1 ≡ core_end 12 3 (exited 1) ((6, 7) ∷ (10, 1) ∷ (11, 2) ∷ []) ((0, Shared) ∷ [])
   pub memory : memory_at_end reader_behind_an_owner ≡ (0, 7) ∷ []
   pub waits : map wait_of (rows_of reader_behind_an_owner 7) ≡ 2 ∷ 4 ∷ []
+  pub states_0 : map (λ slot. state_at reader_behind_an_owner slot 0) (4 ∷ 5 ∷ []) ≡ MSWB ∷ S ∷ []
+  pub states_1 : map (λ slot. state_at reader_behind_an_owner slot 1) (4 ∷ 5 ∷ []) ≡ ISD ∷ ISD ∷ []
   pub left : left_at reader_behind_an_owner 4 1 ≡ Some 5
   pub left_none : left_at reader_behind_an_owner 4 0 ≡ None
 
@@ -254,6 +279,7 @@ pub record ReadBeforeWrite : Type 0 where
   pub core_2 : core_at_end read_before_write 2 ≡ core_end 4 1 (exited 2) ((10, 2) ∷ (11, 3) ∷ []) ((0, Modified) ∷ [])
   pub memory : memory_at_end read_before_write ≡ (0, 2) ∷ []
   pub waits : map wait_of (rows_of read_before_write 7) ≡ 1 ∷ 5 ∷ 6 ∷ []
+  pub states : map (state_at read_before_write 3) (0 ∷ 1 ∷ 2 ∷ []) ≡ MIWB ∷ ISDI ∷ IMD ∷ []
   pub bound : bound_of (plan_of read_before_write) ≡ 96
   pub left_1 : map (λ slot. left_at read_before_write slot 1) (1 ∷ 2 ∷ 3 ∷ 4 ∷ []) ≡ Some 73 ∷ Some 8 ∷ Some 7 ∷ Some 4 ∷ []
   pub left_2 : map (λ slot. left_at read_before_write slot 2) (1 ∷ 2 ∷ 3 ∷ 4 ∷ 5 ∷ []) ≡ Some 74 ∷ Some 73 ∷ Some 31 ∷ Some 28 ∷ Some 4 ∷ []
@@ -292,6 +318,7 @@ pub record VictimAlreadyDemanded : Type 0 where
   pub core_1 : core_at_end victim_already_demanded 1 ≡ core_end 4 1 (exited 1) ((6, 2) ∷ (10, 1) ∷ (11, 2) ∷ []) ((0, Shared) ∷ [])
   pub rows : rows_of victim_already_demanded 6 ≡ row 0 0 Write 0 0 0 ∷ row 1 0 Read 0 1 3 ∷ row 0 1 Write 2 4 4 ∷ []
   pub waits : map wait_of (rows_of victim_already_demanded 6) ≡ 1 ∷ 4 ∷ 3 ∷ []
+  pub states : map (λ slot. state_at victim_already_demanded slot 0) (2 ∷ 3 ∷ []) ≡ MSWB ∷ I ∷ []
   pub left_0 : map (λ slot. left_at victim_already_demanded slot 0) (3 ∷ 4 ∷ []) ≡ Some 26 ∷ Some 25 ∷ []
 
 -- ---- the least recently used line is the victim, and not the one that came first
@@ -305,6 +332,53 @@ pub record LeastRecentlyUsed : Type 0 where
   pub used_again : ((machine_at least_recently_used 3).cores 0).held ≡ (0, Shared) ∷ (1, Shared) ∷ []
   pub line_1_gone : ((machine_at least_recently_used 4).cores 0).held ≡ (2, Shared) ∷ (0, Shared) ∷ []
   pub waits : map wait_of (rows_of least_recently_used 5) ≡ 1 ∷ 1 ∷ 1 ∷ []
+
+-- ---- lines of two sets: a line takes the place of one of its own set
+
+abbrev pub two_sets : JobValue
+two_sets = job_of (record (small 1 1 5) { sets = 2 }) ((lw_x5_0 ∷ lw_x6_16 ∷ lw_x8_32 ∷ lw_x6_16 ∷ ecall ∷ []) ∷ [])
+
+pub record TwoSets : Type 0 where
+  pub actions : records two_sets 5 ≡ PostFill GetS 0 ∷ PostFill GetS 1 ∷ PostFill GetS 2 ∷ Idle ∷ Idle ∷ []
+  pub line_0_gone : ((machine_at two_sets 3).cores 0).held ≡ (2, Shared) ∷ (1, Shared) ∷ []
+  pub core : core_at_end two_sets 0 ≡ core_end 16 4 (exited 0) ((11, 1) ∷ []) ((1, Shared) ∷ (2, Shared) ∷ [])
+
+-- ---- two cores write bytes of one word
+
+-- addi x5, x0, 85; sb x5, 1(x0), and addi x6, x0, 51; sb x6, 2(x0); then both load the word
+abbrev pub byte_lanes : JobValue
+byte_lanes = job_of (small 2 1 7) ((0x05500293 ∷ 0x005000a3 ∷ lw_x7_0 ∷ ecall ∷ []) ∷ (0x03300313 ∷ 0x00600123 ∷ lw_x7_0 ∷ ecall ∷ []) ∷ [])
+
+abbrev pub byte_touch : ℕ → ℕ → ℕ → ℕ → ℕ → Touch
+byte_touch slot core address old new = record (touch slot core Write address old new) { width = 1 }
+
+pub record ByteLanes : Type 0 where
+  pub actions : records byte_lanes 7 ≡ Idle ∷ PostFill GetM 0 ∷ Post GetM 0 ∷ Back 0 false ∷ Fill 0 ∷ Idle ∷ Idle ∷ []
+  pub core_0 : core_at_end byte_lanes 0 ≡ core_end 12 3 (exited 0) ((5, 85) ∷ (7, 0x00335500) ∷ (11, 2) ∷ []) ((0, Modified) ∷ [])
+  pub core_1 : core_at_end byte_lanes 1 ≡ core_end 12 3 (exited 1) ((6, 51) ∷ (7, 0x00330000) ∷ (10, 1) ∷ (11, 2) ∷ []) []
+  pub memory : memory_at_end byte_lanes ≡ (1, 0x55) ∷ (2, 0x33) ∷ []
+  pub touches : touches_of byte_lanes 7 ≡
+      byte_touch 1 1 2 0 51 ∷ touch 2 1 Read 0 0x00330000 0x00330000 ∷ byte_touch 4 0 1 0 85 ∷ touch 5 0 Read 0 0x00335500 0x00335500 ∷ []
+
+-- ---- cores that count up one word, with a quantum of four instructions: core k posts in slot k, and fills after all before it
+
+-- addi x6, x0, 1; amoadd.w x5, x6, (x0); ecall
+abbrev pub counts_up : ℕ → ℕ → JobValue
+counts_up cores slots = job_of (record (small cores 1 slots) { quantum = 4 }) (replicate cores (0x00100313 ∷ 0x006022af ∷ ecall ∷ []))
+
+pub record CountsUp : Type 0 where
+  pub actions : records (counts_up 4 17) 17 ≡
+      PostFill GetM 0 ∷ Post GetM 0 ∷ Post GetM 0 ∷ Post GetM 0 ∷ Back 0 false
+      ∷ Fill 0 ∷ Idle ∷ Idle ∷ Idle ∷ Back 0 false
+      ∷ Fill 0 ∷ Idle ∷ Idle ∷ Idle ∷ Back 0 false
+      ∷ Fill 0 ∷ Idle ∷ []
+  pub core_0 : core_at_end (counts_up 4 17) 0 ≡ core_end 8 2 (exited 0) ((6, 1) ∷ (11, 4) ∷ []) []
+  pub core_3 : core_at_end (counts_up 4 17) 3 ≡ core_end 8 2 (exited 3) ((5, 3) ∷ (6, 1) ∷ (10, 3) ∷ (11, 4) ∷ []) ((0, Modified) ∷ [])
+  pub memory : memory_at_end (counts_up 4 17) ≡ (0, 4) ∷ []
+  pub rows : rows_of (counts_up 4 17) 17 ≡ row 0 0 Write 0 0 0 ∷ row 1 0 Write 0 1 5 ∷ row 2 0 Write 0 2 10 ∷ row 3 0 Write 0 3 15 ∷ []
+  -- sixteen cores, while the first three are served
+  pub sixteen : map wait_of (rows_of (counts_up 16 36) 36) ≡ 1 ∷ 18 ∷ 35 ∷ []
+  pub sixteen_open : map (age_of 36) (open_rows_of (counts_up 16 36) 36) ≡ replicate 13 36
 
 -- ---- instructions beyond those of the other examples
 

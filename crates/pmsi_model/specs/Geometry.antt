@@ -2,7 +2,8 @@
 use Rattle.std.specs.Prelude.{◌≡◌, ℕ, ◌*◌, ◌/◌, ◌%◌, ◌≤◌, true}
 use Rattle.std.specs.Int.{is_power_of_two}
 use Rattle.pmsi_model.specs.declared.job.Geometry.{Geometry}
-use Rattle.pmsi_model.specs.declared.limits.TheConstants.{MAX_CORES, MAX_QUANTUM, MIN_LINE_WORDS, MAX_LINE_WORDS, MAX_SETS, MAX_WAYS, MIN_MEMORY, MAX_MEMORY, MAX_SLOTS}
+use Rattle.pmsi_model.specs.declared.Keep.{Keep}
+use Rattle.pmsi_model.specs.declared.limits.TheConstants.{MAX_CORES, MAX_QUANTUM, MIN_LINE_WORDS, MAX_LINE_WORDS, MAX_SETS, MAX_WAYS, MIN_MEMORY, MAX_MEMORY, MAX_SLOTS, MAX_TOUCHES}
 
 -- the bytes of a line
 abbrev pub line_bytes : Geometry → ℕ
@@ -15,6 +16,14 @@ line_of shape address = address / line_bytes shape
 -- the set in which a line is cached
 abbrev pub set_of : Geometry → ℕ → ℕ
 set_of shape line = line % shape.sets
+
+-- the accesses that a run of the shape can have at most: one for each instruction that its cores can take
+abbrev pub most_touches : Geometry → ℕ
+most_touches shape = shape.slots * shape.cores * shape.quantum
+
+-- where accesses are to be kept, they aren't too many
+abbrev pub CanKeep : Keep → Geometry → Type 0
+CanKeep keep shape = keep.touches ≡ true → most_touches shape ≤ MAX_TOUCHES
 
 -- a shape is within the limits, and its memory is whole lines
 pub record IsGeometry (shape : Geometry) : Type 0 where

@@ -16,7 +16,8 @@ end_of piece = piece.address + length piece.bytes
 -- the next
 abbrev pub ArePieces : ℕ → List Piece → Type 0
 ArePieces least [] = Unit {0}
-ArePieces least (piece ∷ pieces) = (least ≤ piece.address) × (0 < length piece.bytes) × (end_of piece ≤ MAX_MEMORY) × ArePieces (end_of piece + 1) pieces
+ArePieces least (piece ∷ pieces) =
+    (least ≤ piece.address) × (0 < length piece.bytes) × (end_of piece ≤ MAX_MEMORY) × ArePieces (end_of piece + 1) pieces
 
 -- an image is within the limits
 pub record IsImage (image : ImageValue) : Type 0 where

@@ -20,3 +20,5 @@ pub mod Lines
 pub mod Listing
 pub mod Shared
 pub mod Parts
+pub mod Spreads
+pub mod Named

@@ -1,17 +1,23 @@
 -- The single lines of what the program prints. Each ends with a newline; numbers after 0x have eight digits.
-use Rattle.std.specs.Prelude.{ℕ, zero, suc, ◌+◌, ◌/◌, ◌%◌, ◌^◌, max, sum, List, [], ◌∷◌, ◌++◌, map, length, codes, decimal, ◌==◌, nat_lt, if◌then◌else◌, Option, Some, None}
+use Rattle.std.specs.Prelude.{ℕ, zero, suc, ◌+◌, ◌/◌, ◌%◌, ◌^◌, max, sum, List, [], ◌∷◌, ◌++◌, map, length, codes, decimal, Bool, ◌==◌, nat_lt, if◌then◌else◌, Option, Some, None}
 use Rattle.std.specs.List.{filter, flat_map}
 use Rattle.pmsi_model.specs.declared.job.Geometry.{Geometry}
+use Rattle.pmsi_model.specs.declared.Action.{Action}
+use Rattle.pmsi_model.specs.declared.Action.TheVariants.{Idle, Post, Fill, PostFill, Back}
 use Rattle.pmsi_model.specs.declared.Halt.{Halt}
 use Rattle.pmsi_model.specs.declared.Halt.TheVariants.{Exit, Break, Illegal, FetchRange, JumpMisaligned, Misaligned, Range}
 use Rattle.pmsi_model.specs.declared.Kind.{Kind}
 use Rattle.pmsi_model.specs.declared.Kind.TheVariants.{Read, Write}
 use Rattle.pmsi_model.specs.declared.Mode.{Mode}
 use Rattle.pmsi_model.specs.declared.Mode.TheVariants.{Shared, Modified}
+use Rattle.pmsi_model.specs.declared.Name.{Name}
+use Rattle.pmsi_model.specs.declared.Name.TheVariants.{GetS, GetM, Upg}
 use Rattle.pmsi_model.specs.declared.OpenRow.{OpenRow}
 use Rattle.pmsi_model.specs.declared.Row.{Row}
 use Rattle.pmsi_model.specs.declared.Status.{Status}
 use Rattle.pmsi_model.specs.declared.Status.TheVariants.{Running, Halted}
+use Rattle.pmsi_model.specs.declared.Touch.{Touch}
+use Rattle.pmsi_model.specs.Slots.{SlotPlan, owner_of_slot}
 use Rattle.pmsi_model.specs.Rows.{wait_of, age_of}
 
 -- ---- numbers
@@ -130,3 +136,37 @@ waits_line c waits =
 -- `bound B`
 abbrev pub bound_line : ℕ → List ℕ
 bound_line bound = codes "bound " ++ decimal bound ++ codes "\n"
+
+-- ---- actions and accesses
+
+abbrev pub name_text : Name → List ℕ
+name_text GetS = codes "GetS"
+name_text GetM = codes "GetM"
+name_text Upg = codes "Upg"
+
+-- whether a line that is written back stays shared
+abbrev pub kept_text : Bool → List ℕ
+kept_text kept = if kept then codes "keep" else codes "drop"
+
+abbrev pub action_text : Action → List ℕ
+action_text Idle = codes "idle"
+action_text (Post name line) = codes "post " ++ name_text name ++ codes " " ++ decimal line
+action_text (Fill line) = codes "fill " ++ decimal line
+action_text (PostFill name line) = codes "postfill " ++ name_text name ++ codes " " ++ decimal line
+action_text (Back line kept) = codes "back " ++ decimal line ++ codes " " ++ kept_text kept
+
+-- `slot S core C ACTION`
+unfoldable pub action_line : ℕ → ℕ → Action → List ℕ
+action_line slot c action = codes "slot " ++ decimal slot ++ codes " core " ++ decimal c ++ codes " " ++ action_text action ++ codes "\n"
+
+-- the lines of actions, the first of which is that of this slot
+unfoldable pub action_lines : SlotPlan → ℕ → List Action → List ℕ
+action_lines plan slot [] = []
+action_lines plan slot (action ∷ actions) = action_line slot (owner_of_slot plan slot) action ++ action_lines plan (slot + 1) actions
+
+-- `touch S core C read W 0xADDRESS 0xOLD 0xNEW`, or `write`
+unfoldable pub touch_line : Touch → List ℕ
+touch_line touch =
+    codes "touch " ++ decimal touch.slot ++ codes " core " ++ decimal touch.core ++ codes " " ++ kind_text touch.kind
+    ++ codes " " ++ decimal touch.width ++ codes " " ++ hex_word touch.address ++ codes " " ++ hex_word touch.old
+    ++ codes " " ++ hex_word touch.new ++ codes "\n"

@@ -1,6 +1,6 @@
 -- The state of the written machine: one flat memory, the posted requests in order, and per core what it holds and wants.
 -- There are no copies of data in it, no ages, and no states of lines that are on their way.
-use Rattle.std.specs.Prelude.{◌≡◌, ℕ, zero, suc, ◌+◌, List, [], ◌∷◌, ◌++◌, map, Bool, true, false, not, ◌==◌, ◌&&◌, ◌||◌, Option, Some, None, if◌then◌else◌}
+use Rattle.std.specs.Prelude.{◌≡◌, ℕ, zero, suc, ◌+◌, List, [], ◌∷◌, ◌++◌, map, Bool, true, false, not, ◌==◌, ◌&&◌, ◌||◌, Option, Some, None, is_none, if◌then◌else◌}
 use Rattle.std.specs.List.{filter, list_any}
 use Rattle.pmsi_model.specs.declared.Kind.{Kind}
 use Rattle.pmsi_model.specs.declared.Kind.TheVariants.{Read, Write}
@@ -151,11 +151,6 @@ mode_in x c line = mode_of line (x.cores c).held
 abbrev pub owns : Machine → ℕ → ℕ → Bool
 owns x c line = is_modified (mode_in x c line)
 
--- none of the first `count` cores owns the line
-abbrev pub nobody_owns : Machine → ℕ → ℕ → Bool
-nobody_owns x zero line = true
-nobody_owns x (suc count) line = nobody_owns x count line && not (owns x count line)
-
 abbrev pub or_else : Option ℕ → Option ℕ → Option ℕ
 or_else None other = other
 or_else (Some n) other = Some n
@@ -164,3 +159,7 @@ or_else (Some n) other = Some n
 abbrev pub owner_of : Machine → ℕ → ℕ → Option ℕ
 owner_of x zero line = None
 owner_of x (suc count) line = or_else (owner_of x count line) (if owns x count line then Some count else None)
+
+-- none of the first `count` cores owns the line
+abbrev pub nobody_owns : Machine → ℕ → ℕ → Bool
+nobody_owns x count line = is_none (owner_of x count line)

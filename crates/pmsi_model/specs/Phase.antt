@@ -206,3 +206,7 @@ phases job (suc count) x = phase job count (phases job count x)
 unfoldable pub phases_touches : JobValue → ℕ → Machine → List Touch
 phases_touches job zero x = []
 phases_touches job (suc count) x = phases_touches job count x ++ phase_touches job count (phases job count x)
+
+-- the accesses of one core among those of several
+abbrev pub touches_by : ℕ → List Touch → List Touch
+touches_by c touches = filter (λ touch. touch.core == c) touches

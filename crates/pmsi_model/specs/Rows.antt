@@ -1,5 +1,5 @@
 -- The requests of a run: those that were served, and those that are still open.
-use Rattle.std.specs.Prelude.{ℕ, zero, suc, ◌+◌, ◌-◌, List, [], ◌∷◌, ◌++◌, Option, Some, None}
+use Rattle.std.specs.Prelude.{ℕ, zero, suc, ◌+◌, ◌-◌, ◌<◌, ◌≤◌, List, [], ◌∷◌, ◌++◌, Option, Some, None}
 use Rattle.std.specs.Option.{unwrap_or}
 use Rattle.pmsi_model.specs.declared.Action.{Action}
 use Rattle.pmsi_model.specs.declared.Action.TheVariants.{Idle, Post, Fill, PostFill, Back}
@@ -7,9 +7,8 @@ use Rattle.pmsi_model.specs.declared.OpenRow.{OpenRow}
 use Rattle.pmsi_model.specs.declared.Row.{Row}
 use Rattle.pmsi_model.specs.declared.Want.{Want}
 use Rattle.pmsi_model.specs.Job.{JobValue}
-use Rattle.pmsi_model.specs.Slots.{plan_of, owner_of_slot}
 use Rattle.pmsi_model.specs.Machine.{Machine}
-use Rattle.pmsi_model.specs.Run.{machine_at, after_phases, record_at}
+use Rattle.pmsi_model.specs.Run.{machine_at, after_phases, slot_owner, record_at}
 
 -- the row of a request that is served in a slot; one that is posted and served in it has that slot as its post
 abbrev pub row_of : ℕ → ℕ → Option Want → List Row
@@ -25,7 +24,7 @@ action_row x c (Back line kept) = []
 
 -- the requests that are served in a slot: one at most
 abbrev pub slot_rows : JobValue → Machine → Action → List Row
-slot_rows job x action = action_row (after_phases job x) (owner_of_slot (plan_of job) x.slot) action
+slot_rows job x action = action_row (after_phases job x) (slot_owner job x) action
 
 -- the requests served in the first slots, by the slot of their fill
 unfoldable pub rows_of : JobValue → ℕ → List Row
@@ -35,6 +34,12 @@ rows_of job (suc slot) = rows_of job slot ++ slot_rows job (machine_at job slot)
 -- the slots that a request waited, that of its miss and that of its fill counted
 abbrev pub wait_of : Row → ℕ
 wait_of row = row.fill - row.issue + 1
+
+-- a request that was served before a boundary: it was issued, posted and filled in this order
+pub record IsInOrder (slot : ℕ) (row : Row) : Type 0 where
+  pub issued : row.issue ≤ row.post
+  pub posted : row.post ≤ row.fill
+  pub filled : row.fill < slot
 
 abbrev pub open_row_of : ℕ → Option Want → Option OpenRow
 open_row_of c None = None

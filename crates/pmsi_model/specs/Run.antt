@@ -33,16 +33,17 @@ start_of job = record { slot = 0; memory = job.start; posted = []; cores = start
 abbrev pub after_phases : JobValue → Machine → Machine
 after_phases job x = phases job job.shape.cores x
 
--- the owner's action in the slot
+-- the core that owns the slot
+abbrev pub slot_owner : JobValue → Machine → ℕ
+slot_owner job x = owner_of_slot (plan_of job) x.slot
+
+-- its action in the slot
 abbrev pub slot_action : JobValue → Machine → Action
-slot_action job x = action_of job (after_phases job x) (owner_of_slot (plan_of job) x.slot)
+slot_action job x = action_of job (after_phases job x) (slot_owner job x)
 
 -- one slot: each core's phase, in core order, and then the owner's action
 unfoldable pub slot_done : JobValue → Machine → Machine
-slot_done job x =
-    let y = after_phases job x in
-    let c = owner_of_slot (plan_of job) x.slot in
-    record (after_action y c (action_of job y c)) { slot = x.slot + 1 }
+slot_done job x = record (after_action (after_phases job x) (slot_owner job x) (slot_action job x)) { slot = x.slot + 1 }
 
 -- the machine at the boundary after so many slots
 unfoldable pub machine_at : JobValue → ℕ → Machine
@@ -72,10 +73,7 @@ action_touch x c (Back line kept) = []
 
 -- the accesses of a slot: those of the phases by core number and program order, and last that of the fill
 abbrev pub slot_touches : JobValue → Machine → List Touch
-slot_touches job x =
-    let y = after_phases job x in
-    let c = owner_of_slot (plan_of job) x.slot in
-    phases_touches job job.shape.cores x ++ action_touch y c (action_of job y c)
+slot_touches job x = phases_touches job job.shape.cores x ++ action_touch (after_phases job x) (slot_owner job x) (slot_action job x)
 
 -- the accesses of the first slots, in bus order
 unfoldable pub touches_of : JobValue → ℕ → List Touch

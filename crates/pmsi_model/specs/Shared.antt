@@ -12,7 +12,7 @@ use Rattle.pmsi_model.specs.declared.Name.{Name}
 use Rattle.pmsi_model.specs.declared.Posted.{Posted}
 use Rattle.pmsi_model.specs.declared.Posted.TheVariants.{Queued, Filled}
 use Rattle.pmsi_model.specs.Geometry.{IsGeometry, line_bytes}
-use Rattle.pmsi_model.specs.Slots.{SlotPlan, owner_of_slot}
+use Rattle.pmsi_model.specs.Slots.{SlotPlan, owner_of_slot, gap_of}
 use Rattle.pmsi_model.specs.Machine.{Request, is_write, first_of, has_request, has_write, removed, request_of}
 use Rattle.pmsi_model.specs.Bus.{is_core, kind_of_name}
 use Rattle.pmsi_model.specs.Coherent.{RequestsOnce}
@@ -86,10 +86,11 @@ pub record IsShared (m : SharedValue) : Type 0 where
 
 -- ---- the bus
 
--- what a bus has: `recent` are the actions of the last slots, at most as many as there are cores, and `trace` those of
--- all slots, where the bus keeps them
+-- what a bus has: `recent` are the actions of the last slots, at most as many as lie between two own slots of a core, and
+-- `trace` those of all slots, where the bus keeps them
 pub record BusSide : Type 0 where
   pub memory : SharedValue
+  pub plan : SlotPlan
   pub slot : ℕ
   pub recent : List Action
   pub keeps : Bool
@@ -104,7 +105,7 @@ abbrev pub ended : Action → SharedValue → BusSide → BusSide
 ended action memory b = record b {
   memory = memory;
   slot = b.slot + 1;
-  recent = last_of b.memory.shape.cores (b.recent ++ action ∷ []);
+  recent = last_of (gap_of b.plan) (b.recent ++ action ∷ []);
   trace = if b.keeps then b.trace ++ action ∷ [] else b.trace;
 }
 
@@ -124,6 +125,10 @@ side_posted c line name b =
 abbrev pub post_answer : ℕ → ℕ → Name → SharedValue → Posted
 post_answer c line name m = if fills_at_once c line name m then Filled else Queued
 
+-- the words that a post gives: the line's, where its request is filled at once
+abbrev pub words_met : ℕ → ℕ → Name → SharedValue → List ℕ → List ℕ
+words_met c line name m words = if fills_at_once c line name m then line_in m line else words
+
 abbrev pub side_filled : ℕ → ℕ → BusSide → BusSide
 side_filled c line b = ended (Fill line) (filled c b.memory) b
 
@@ -138,7 +143,7 @@ side_idle b = ended Idle b.memory b
 -- the slot is the core's
 pub record IsOwnSlot (c : ℕ) (b : BusSide) : Type 0 where
   pub more : b.slot < b.memory.shape.slots
-  pub own : owner_of_slot (record { cores = b.memory.shape.cores }) b.slot ≡ c
+  pub own : owner_of_slot b.plan b.slot ≡ c
 
 -- the core has no posted request
 pub record CanPost (c line : ℕ) (m : SharedValue) : Type 0 where

@@ -1,7 +1,7 @@
 //! Worked examples: each function has an empty body, and its contract says what the definitions give for a small job.
 //! The jobs and the values stand in `specs/Examples.antt`; the checker computes them.
 
-ghost use Rattle.pmsi_model.specs.Examples.{AddsAndExits, TakesNoSlot, StoresAndLoads, TwoWriters, OpenAtTheEnd, ReaderBehindAnOwner, ReadBeforeWrite, SharedHoldersStore, ModifiedVictim, VictimAlreadyDemanded, LeastRecentlyUsed, ExecutesInstructions, LargestBound};
+ghost use Rattle.pmsi_model.specs.Examples.{AddsAndExits, TakesNoSlot, StoresAndLoads, TwoWriters, OpenAtTheEnd, ReaderBehindAnOwner, ReadBeforeWrite, SharedHoldersStore, ModifiedVictim, VictimAlreadyDemanded, LeastRecentlyUsed, TwoSets, ByteLanes, CountsUp, ExecutesInstructions, LargestBound};
 ghost use Rattle.pmsi_model.specs.ExampleWords.{ReadsWords};
 
 /// One core adds, and exits by an environment call.
@@ -57,6 +57,21 @@ pub fn victim_already_demanded()
 /// The victim is the least recently used line of the set.
 pub fn least_recently_used()
     ensures { LeastRecentlyUsed }
+{}
+
+/// A line takes the place of one of its own set alone.
+pub fn two_sets()
+    ensures { TwoSets }
+{}
+
+/// Two cores write bytes of one word, and both bytes stay.
+pub fn byte_lanes()
+    ensures { ByteLanes }
+{}
+
+/// Cores add to one word in turn, with a quantum of four instructions.
+pub fn counts_up()
+    ensures { CountsUp }
 {}
 
 /// An AMO, jumps, addresses that halt, and effects and accesses at their edges.

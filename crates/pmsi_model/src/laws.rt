@@ -2,6 +2,7 @@
 
 ghost use Rattle.pmsi_model.specs.Instruction.{HasOneRow, ReadsOneWay};
 ghost use Rattle.pmsi_model.specs.Machine.{PlaceIsRead, QueueIsRead};
+ghost use Rattle.pmsi_model.specs.Spreads.{MeetsAreSteps, MeetsFit, SpreadsFit};
 
 /// A word has one row at most, and encodes an instruction exactly where the first row that fits reads it so.
 pub fn instruction_table()
@@ -13,4 +14,11 @@ pub fn instruction_table()
 pub fn queues()
     ensures readers { QueueIsRead }
     ensures places { PlaceIsRead }
+{}
+
+/// In whatever order the cores take their steps, none is past the bus, and the bus isn't past any core's next own slot.
+pub fn spreads()
+    ensures meets { MeetsFit }
+    ensures steps { MeetsAreSteps }
+    ensures fit { SpreadsFit }
 {}

@@ -14,13 +14,17 @@ pub mod laws;
 pub mod limits;
 mod lists;
 mod port;
+mod slot_table;
+mod step;
 
 pub use image::{Image, Piece};
 pub use instr::{AmoOp, BranchOp, ImmOp, Instr, LoadOp, Reg, RegOp, StoreOp};
 pub use job::{Geometry, Job};
 pub use lists::{Bytes, Pieces, Sequence, Utf8Text, WordLists, Words};
-pub use port::BusPort;
+pub use port::{BusPort, LineWords};
+pub use slot_table::SlotTable;
 use std::alloc::{AllocError, AllocFailed};
+pub use step::Step;
 
 /// What a request asks for: a copy to read, or the only copy, to write. An AMO is a write.
 #[derive(Clone, Copy, Debug, PartialEq, Eq)]

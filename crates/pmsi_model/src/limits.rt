@@ -3,6 +3,9 @@
 /// Cores on the bus, from 1 on.
 pub const MAX_CORES: u32 = 16;
 
+/// The room of a list with at most one entry for each core.
+pub const CORES_ROOM: usize = MAX_CORES as usize;
+
 /// Instructions that a core takes in a slot at most, from 1 on.
 pub const MAX_QUANTUM: u32 = 256;
 
@@ -10,6 +13,9 @@ pub const MAX_QUANTUM: u32 = 256;
 pub const MIN_LINE_WORDS: u32 = 4;
 
 pub const MAX_LINE_WORDS: u32 = 16;
+
+/// The room of a list with the words of one line.
+pub const LINE_ROOM: usize = MAX_LINE_WORDS as usize;
 
 /// Sets of a cache: a power of two from 1 on.
 pub const MAX_SETS: u32 = 256;

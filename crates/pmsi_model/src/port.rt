@@ -1,10 +1,14 @@
 //! How a core reaches the bus.
-ghost use Rattle.std.specs.Prelude.{◌≡◌, ◌<◌, if◌then◌else◌};
+ghost use Rattle.std.specs.Prelude.{◌≡◌, ◌<◌};
 ghost use Rattle.pmsi_model.specs.Machine.{removed};
-ghost use Rattle.pmsi_model.specs.Shared.{BusSide, IsOwnSlot, CanPost, CanFill, CanWriteBack, is_ready, behind_in, fills_at_once, line_in, side_posted, post_answer, side_filled, side_back, side_idle};
+ghost use Rattle.pmsi_model.specs.Shared.{BusSide, IsOwnSlot, CanPost, CanFill, CanWriteBack, is_ready, behind_in, line_in, side_posted, post_answer, words_met, side_filled, side_back, side_idle};
 
+use crate::limits::LINE_ROOM;
 use crate::{Behind, Name, Posted};
 use arrayvec::ArrayVec;
+
+/// The words of a line, lowest address first.
+pub type LineWords = ArrayVec<u32, LINE_ROOM>;
 
 /// The bus, as a core that owns the slot uses it. Each call but `slot` and `ready` ends the slot. None takes memory.
 pub trait BusPort {
@@ -20,15 +24,15 @@ pub trait BusPort {
         ensures { result ≡ is_ready (side self.now).memory core };
 
     /// Posts a request. `words` becomes the line's words where the request is filled at once.
-    fn post(&mut self, core: u32, line: u32, name: Name, words: &mut ArrayVec<u32, 16>) -> Posted
+    fn post(&mut self, core: u32, line: u32, name: Name, words: &mut LineWords) -> Posted
         requires slot { IsOwnSlot core (side self.old) }
         requires can { CanPost core line (side self.old).memory }
         ensures side { side self.new ≡ side_posted core line name (side self.old) }
         ensures answer { result ≡ post_answer core line name (side self.old).memory }
-        ensures words { words.new.items ≡ (if fills_at_once core line name (side self.old).memory then line_in (side self.old).memory line else words.old.items) };
+        ensures words { words.new.items ≡ words_met core line name (side self.old).memory words.old.items };
 
     /// Serves the core's posted request: `words` becomes the line's words. The answer is what is left in the line's queue.
-    fn fill(&mut self, core: u32, line: u32, words: &mut ArrayVec<u32, 16>) -> Behind
+    fn fill(&mut self, core: u32, line: u32, words: &mut LineWords) -> Behind
         requires slot { IsOwnSlot core (side self.old) }
         requires can { CanFill core line (side self.old).memory }
         ensures side { side self.new ≡ side_filled core line (side self.old) }

@@ -17,11 +17,6 @@ File = String Global × Vec ℕ Global
 abbrev named : List ℕ → File → Bool
 named name entry = bytes_eq (string_bytes entry.0) name
 
--- a place of the list has a file
-some_file : (list : List File) (place : ℕ) → place < length list → File
-some_file [] place below = absurd (omega (arith, below))
-some_file (file ∷ list) place below = file
-
 pub bytes_at_place : (list : List File) (place : ℕ) (file : File) → place < length list → bytes_at (entries_of list) place ≡ (get_or list place file).1.items
 bytes_at_place list place file below = ap (λ (entry : List ℕ × List ℕ). entry.1) (get_or-map (λ (entry : File). (string_bytes entry.0, entry.1.items)) list place file ([], []) below)
 

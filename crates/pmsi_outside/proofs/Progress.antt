@@ -1,5 +1,5 @@
 -- What stands between two calls while a file is read or bytes are written.
-use Rattle.std.proofs.Common.{◌≡◌, ℕ, ◌<◌, ◌≤◌, ◌⊎◌, inl, inr, List, [], ◌∷◌, ◌++◌, length, take, drop, refl, sym, ◌∙◌, arith, append_assoc, append-nil, length-append}
+use Rattle.std.proofs.Common.{◌≡◌, ℕ, ◌<◌, ◌≤◌, ◌⊎◌, inl, inr, List, [], ◌++◌, length, take, drop, refl, sym, ◌∙◌, arith, append_assoc, append-nil, length-append}
 use Rattle.std.proofs.lemmas.Bool.{cases_lt}
 use Rattle.std.proofs.lemmas.List.{take-append-drop}
 use Rattle.std.proofs.Math.Seq.{take-append_seam}
@@ -15,10 +15,6 @@ pub record Writing (start now : Option (List ℕ)) (bytes rest : List ℕ) : Typ
   pub split : bytes ≡ done ++ rest
   pub held : Appends start now done
 
-appends_nothing : (held : Option (List ℕ)) → Appends held held []
-appends_nothing None = tt
-appends_nothing (Some xs) = sym (append-nil xs)
-
 appends_more : (start now next : Option (List ℕ)) (done more : List ℕ) → Appends start now done → Appends now next more → Appends start next (done ++ more)
 appends_more None now next done more a b = tt
 appends_more (Some xs) None next done more a b = absurd a
@@ -31,13 +27,6 @@ appends_kept (Some xs) None next done a k = absurd a
 appends_kept (Some xs) (Some ys) None done a k = absurd k
 appends_kept (Some xs) (Some ys) (Some zs) done a k = k ∙ a
 
-length_zero : (xs : List ℕ) → length xs ≡ 0 → xs ≡ []
-length_zero [] e = refl
-length_zero (x ∷ xs) e = absurd (omega (arith, e))
-
-pub writing_begins : (held : Option (List ℕ)) (bytes : List ℕ) → Writing held held bytes bytes
-writing_begins held bytes = record { done = []; split = refl; held = appends_nothing held }
-
 pub writing_goes_on : (start now next : Option (List ℕ)) (bytes rest behind : List ℕ) (count : ℕ) → behind ≡ drop count rest → Writing start now bytes rest → Appends now next (take count rest) → Writing start next bytes behind
 writing_goes_on start now next bytes rest behind count e w a = record {
   done = w.done ++ take count rest;
@@ -48,12 +37,6 @@ writing_goes_on start now next bytes rest behind count e w a = record {
 -- where some are left, there were some
 pub writing_some : (start now : Option (List ℕ)) (bytes rest : List ℕ) → 0 < length rest → Writing start now bytes rest → 0 < length bytes
 writing_some start now bytes rest some w = rw w.split (omega (arith, length-append w.done rest))
-
-pub writing_ends : (start now : Option (List ℕ)) (bytes rest : List ℕ) → length rest ≡ 0 → Writing start now bytes rest → Appends start now bytes
-writing_ends start now bytes rest empty w =
-    let none : rest ≡ [] = length_zero rest empty in
-    let all : bytes ≡ w.done = rw none at w.split ∙ append-nil w.done in
-    rw all w.held
 
 pub writing_stops : (start now next : Option (List ℕ)) (bytes rest : List ℕ) → 0 < length rest → Writing start now bytes rest → Keeps now next → AppendsPart start next bytes
 writing_stops start now next bytes rest some w k =

@@ -53,6 +53,10 @@ pub record ScheduleValue : Type 0 where
   pub fails : List ℕ
   pub calls : ℕ
 
+-- no call has been made
+abbrev pub new_schedule : List ℕ → ScheduleValue
+new_schedule fails = record { fails = fails; calls = 0 }
+
 -- whether the next call fails
 abbrev pub fails_next : ScheduleValue → Bool
 fails_next schedule = list_any (λ number. number == counted schedule.calls) schedule.fails
@@ -81,6 +85,10 @@ pub record MemoryFilesValue : Type 0 where
   pub schedule : ScheduleValue
   pub step : ℕ
 
+-- no call has been made
+abbrev pub new_files : Entries → List ℕ → ℕ → MemoryFilesValue
+new_files entries fails step = record { shelf = new_shelf entries; schedule = new_schedule fails; step = step }
+
 -- the state after a failed call of this name
 abbrev pub after_failure : MemoryFilesValue → List ℕ → MemoryFilesValue
 after_failure files name = record files { shelf = failed files.shelf name; schedule = after_call files.schedule }
@@ -102,6 +110,10 @@ pub record MemorySinkValue : Type 0 where
   pub step : ℕ
   pub schedule : ScheduleValue
   pub faults : ℕ
+
+-- an empty sink with so much room
+abbrev pub new_sink : ℕ → List ℕ → ℕ → MemorySinkValue
+new_sink room fails step = record { held = []; room = room; step = step; schedule = new_schedule fails; faults = 0 }
 
 -- the state after a failed call
 abbrev pub sink_failure : MemorySinkValue → MemorySinkValue

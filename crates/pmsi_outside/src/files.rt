@@ -8,6 +8,7 @@ ghost use Rattle.pmsi_outside.specs.Files.{Contents, Has, Opens, ReadTakes};
 #[derive(Clone, Copy, Debug, PartialEq, Eq)]
 pub struct Failed;
 
+/// Files of which one at most is open. Each call that fails is counted, closes the open file, and has its name blamed.
 pub trait Files {
     /// The contents by name, where they are told.
     ghost contents: { Self → Option Contents };
@@ -57,5 +58,6 @@ pub trait Files {
 
 /// Is told of each phase of each core before it starts. Nothing that is computed depends on it.
 pub trait Gate {
+    /// Returns when the phase of this core in this slot may start.
     fn before(&self, core: u32, slot: u32);
 }

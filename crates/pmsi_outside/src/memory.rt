@@ -30,12 +30,13 @@ impl Model for MemoryFiles {
 }
 
 impl MemoryFiles {
-    ghost use Rattle.pmsi_outside.specs.Memory.{entries_of, new_shelf};
+    ghost use Rattle.pmsi_outside.specs.Memory.{entries_of, new_files};
 
-    /// Of entries with one name the first counts.
+    /// Files by their names and bytes, which give `step` bytes a read at most, and of whose calls those fail that have one of
+    /// the numbers `fails`. Of entries with one name the first counts.
     pub fn new(list: Vec<(String, Vec<u8>)>, step: u32, fails: Vec<u64>) -> MemoryFiles
         requires { 1 ≤ step }
-        ensures { result ≡ record { shelf = new_shelf (entries_of list.items); schedule = record { fails = fails.items; calls = 0 }; step = step } }
+        ensures { result ≡ new_files (entries_of list.items) fails.items step }
     {
         MemoryFiles {
             shelf: Shelf::new(list),
@@ -64,7 +65,8 @@ impl Files for MemoryFiles {
     fn open(&mut self, name: String) -> Result<(), Failed>
         ensures answer { IsOk result ↔ ((fails_next self.old.schedule ≡ false) × IsSome (contents_of self.old.shelf.entries (string_bytes name))) }
         ensures failed { OnErr result (self.new ≡ after_failure self.old (string_bytes name)) }
-        ensures opened { OnOk result (IfSome (contents_of self.old.shelf.entries (string_bytes name)) (λ bytes. self.new ≡ after_found self.old (string_bytes name) bytes)) }
+        ensures opened { OnOk result (IfSome (contents_of self.old.shelf.entries (string_bytes name))
+            (λ bytes. self.new ≡ after_found self.old (string_bytes name) bytes)) }
     {
         if self.schedule.next() {
             self.shelf.fail(name);
@@ -105,7 +107,7 @@ impl Model for SteadyFiles {
 impl SteadyFiles {
     ghost use Rattle.pmsi_outside.specs.Memory.{entries_of, new_shelf};
 
-    /// Of entries with one name the first counts.
+    /// Files by their names and bytes. Of entries with one name the first counts.
     pub fn new(list: Vec<(String, Vec<u8>)>) -> SteadyFiles
         ensures { result ≡ new_shelf (entries_of list.items) }
     {
@@ -134,7 +136,8 @@ impl Files for SteadyFiles {
     fn open(&mut self, name: String) -> Result<(), Failed>
         ensures answer { IsOk result ↔ IsSome (contents_of self.old.entries (string_bytes name)) }
         ensures failed { OnErr result (self.new ≡ failed self.old (string_bytes name)) }
-        ensures opened { OnOk result (IfSome (contents_of self.old.entries (string_bytes name)) (λ bytes. self.new ≡ opened self.old (string_bytes name) bytes)) }
+        ensures opened { OnOk result (IfSome (contents_of self.old.entries (string_bytes name))
+            (λ bytes. self.new ≡ opened self.old (string_bytes name) bytes)) }
     {
         self.shelf.open(name)
     }
@@ -166,18 +169,26 @@ impl Model for MemorySink {
 
     ghost Value = { MemorySinkValue };
 
-    ghost view = { λ a. record { held = take a.held a.room.items; room = length a.room.items - a.held; step = a.step; schedule = a.schedule; faults = a.faults } };
+    ghost view = { λ a. record {
+      held = take a.held a.room.items;
+      room = length a.room.items - a.held;
+      step = a.step;
+      schedule = a.schedule;
+      faults = a.faults;
+    } };
 
     ghost invariant = { λ a. (1 ≤ a.step) × (a.held ≤ length a.room.items) };
 }
 
 impl MemorySink {
-    ghost use Rattle.std.specs.Prelude.{◌≡◌, ◌≤◌, [], length};
+    ghost use Rattle.std.specs.Prelude.{◌≡◌, ◌≤◌, length};
+    ghost use Rattle.pmsi_outside.specs.Memory.{new_sink};
 
-    /// What the bytes of the room are doesn't matter.
+    /// A sink with this room, which takes `step` bytes a call at most, and of whose calls those fail that have one of the
+    /// numbers `fails`. What the bytes of the room are doesn't matter.
     pub fn new(room: Vec<u8>, step: u32, fails: Vec<u64>) -> MemorySink
         requires { 1 ≤ step }
-        ensures { result ≡ record { held = []; room = length room.items; step = step; schedule = record { fails = fails.items; calls = 0 }; faults = 0 } }
+        ensures { result ≡ new_sink (length room.items) fails.items step }
     {
         MemorySink {
             room,
@@ -228,6 +239,7 @@ impl Sink for MemorySink {
 pub struct NullSink;
 
 impl NullSink {
+    /// Another such sink.
     pub fn new() -> NullSink {
         NullSink
     }
@@ -251,6 +263,7 @@ impl Sink for NullSink {
 pub struct OpenGate;
 
 impl OpenGate {
+    /// Another such gate.
     pub fn new() -> OpenGate {
         OpenGate
     }

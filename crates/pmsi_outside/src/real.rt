@@ -37,6 +37,7 @@ impl<'a, R: rt::Files> Model for DiskFiles<'a, R> {
 }
 
 impl<'a, R: rt::Files> DiskFiles<'a, R> {
+    /// The files that the runtime reaches. None is open.
     pub fn new(rt: &'a R) -> DiskFiles<'a, R>
         ensures { result ≡ record { name = None; blamed = None; faults = 0 } }
     {
@@ -123,6 +124,7 @@ impl<W: Write> Model for StdSink<W> {
 }
 
 impl<W: Write> StdSink<W> {
+    /// A sink over this writer, with no fault counted.
     pub fn new(writer: W) -> StdSink<W>
         ensures { result ≡ 0 }
     {

@@ -6,6 +6,7 @@ ghost use Rattle.pmsi_outside.specs.Sink.{WritesSome};
 
 use crate::Failed;
 
+/// Takes bytes, maybe fewer than it is given in one call. Each call that fails is counted.
 pub trait Sink {
     /// The bytes that it holds, where they are told.
     ghost held: { Self → Option (List ℕ) };

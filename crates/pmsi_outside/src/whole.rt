@@ -20,6 +20,7 @@ pub enum ReadAll {
     Failed,
     /// It has more than `MAX_FILE_BYTES` bytes.
     Large,
+    /// Memory ran out.
     NoMemory,
 }
 
@@ -41,7 +42,7 @@ impl From<AllocError> for ReadAll {
     }
 }
 
-/// Opens the file of this name and reads it to its end.
+/// Opens the file of this name and reads it to its end, if it has `MAX_FILE_BYTES` bytes at most.
 pub fn read_whole<F: Files>(alloc: Global, files: &mut F, name: String) -> Result<Vec<u8>, ReadAll>
     // Where contents are told, these are the contents of the name.
     ensures whole { IfOk result (λ bytes. Tells (F.contents files.old) (string_bytes name) (λ held. held ≡ bytes.items)) }

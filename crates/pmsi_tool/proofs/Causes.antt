@@ -1,24 +1,27 @@
 -- From the causes of an answer to the clauses of a call.
-use Rattle.std.proofs.Common.{subst, ◌≡◌, ◌⊎◌, inl, inr, ℕ, ◌+◌, ◌<◌, List, [], length, get_or, replicate, refl, sym, ap, ◌∙◌, arith}
-use Rattle.std.proofs.lemmas.List.{length-replicate}
-use Rattle.std.specs.Prelude.{◌==◌, if◌then◌else◌, Option, None, Some, IsSomeAnd, Result, Ok, Err, IfOk, IfErr}
+use Rattle.std.proofs.Common.{◌≡◌, ◌∙◌, ◌⊎◌, inl, inr, ap, sym, subst, refl, ℕ, List, []}
+use Rattle.std.specs.Prelude.{Option, Some, None, IsSome, unwrap_or, ⊤}
 use Rattle.pmsi_model.specs.Job.{JobValue, IsJob}
-use Rattle.pmsi_outside.specs.Files.{Contents, Tells}
-use Rattle.image_file.proofs.Images.{not_both as never_both}
-use Rattle.coherence_laws.proofs.Slots.{stays_coherent}
+use Rattle.pmsi_outside.specs.Files.{Contents}
+use Rattle.coherence_laws.proofs.Exports.{stays_coherent}
 use Rattle.latest_laws.proofs.Runs.{always_reads_latest}
 use Rattle.waiting_laws.proofs.Slots.{always_bounded}
-use Rattle.pmsi_tool.specs.declared.complaint.Refusal.{Refusal}
+use Rattle.tool_words.specs.Meaning.{AskedValue, meaning}
+use Rattle.tool_files.specs.declared.refusal.Detail.{Detail}
+use Rattle.tool_files.specs.declared.refusal.Place.{Place}
+use Rattle.tool_files.specs.declared.refusal.Stop.{Stop}
+use Rattle.tool_files.specs.declared.refusal.Stop.TheVariants as stop
+use Rattle.tool_files.specs.Course.{Step, opens, refuses, gives, IsEnd}
+use Rattle.tool_files.specs.Ordered.{Helds, Follows, IsNext, IsResultOf, IsRefused}
+use Rattle.tool_files.specs.Stops.{FilesCall}
+use Rattle.tool_files.proofs.Exports.{one_end, comes_read, read_comes}
 use Rattle.pmsi_tool.specs.declared.complaint.Complaint.{Complaint}
-use Rattle.pmsi_tool.specs.declared.complaint.Complaint.TheVariants.{Usage, ReadFault, Refused, NoMemory}
-use Rattle.pmsi_tool.specs.Words.{IsCommand, word_of}
-use Rattle.pmsi_tool.specs.declared.words.Command.{Command}
-use Rattle.pmsi_tool.specs.declared.words.Command.TheVariants.{Run, Asm, Dis, Image}
-use Rattle.pmsi_tool.specs.declared.complaint.Refusal.TheVariants.{Large, NotBuilt, NoImage, NotText, AtLine}
+use Rattle.pmsi_tool.specs.declared.complaint.Complaint.TheVariants.{Usage, Stopped}
 use Rattle.pmsi_tool.specs.declared.ToolStatus.{ToolStatus}
-use Rattle.pmsi_tool.specs.declared.ToolStatus.TheVariants.{Done as DoneStatus, ReadFault as ReadFaultStatus, WriteFault as WriteFaultStatus, Refused as RefusedStatus, NoMemory as NoMemoryStatus}
-use Rattle.pmsi_tool.specs.Results.{Gives, Holds, IsFaithful, IsRefused, IsResultOf, Reads, Refuses, RefusesAt}
-use Rattle.pmsi_tool.specs.Statuses.{ErrFails, IsTold, Stands, StandsAt, status_of}
+use Rattle.pmsi_tool.specs.declared.ToolStatus.TheVariants as status
+use Rattle.pmsi_tool.specs.Answers.{IsFaithful, Gives, GivesText, Refuses, IsUnread, Stands, StopsOn}
+use Rattle.pmsi_tool.specs.Lines.{refused_line}
+use Rattle.pmsi_tool.specs.Statuses.{SinkCall, GrowsBy, ErrFails, Holds, IsRefusal, IsTold, RefusesAlways, TakesAccepted, status_of}
 
 pub faithful : (job : JobValue) → IsJob job → IsFaithful job
 faithful job is = record {
@@ -27,147 +30,131 @@ faithful job is = record {
   waits = always_bounded job is;
 }
 
-large_told : (most : ℕ) (told : Option (List ℕ)) → IsSomeAnd told (λ held. most < length held) → (x : List ℕ) × IsSomeAnd told (λ t. t ≡ x) × most < length x
-large_told most None large = absurd large
-large_told most (Some held) large = (held, refl, large)
+-- ---- what a command comes to, by the bytes that it read
 
-long : (most : ℕ) → most < length {A = ℕ} (replicate (most + 1) 0)
-long most = rw (length-replicate {A = ℕ} (most + 1) 0) (omega arith)
+module _ (words : List (List ℕ)) (asked : AskedValue) (means : meaning words ≡ Some asked) where
+  pub gives_from : (contents : Option Contents) (text : List ℕ) → GivesText contents asked text → Gives words contents text
+  gives_from contents text given =
+      let read = comes_read contents asked (gives text) given.comes in
+      record { asked = asked; means = means; helds = read.0; follows = read.1; is_result = read.2; faithful = given.faithful }
 
--- where a file is too large, some bytes that it can have are
-pub large_held : (most : ℕ) (contents : Option Contents) (name : List ℕ) → Tells contents name (λ held. most < length held) → (x : List ℕ) × Reads contents name x × most < length x
-large_held most None name large = (replicate (most + 1) 0, tt, long most)
-large_held most (Some contents) name large = large_told most (contents name) large
+  pub stands_from : (files : FilesCall) (said : Stop) → StopsOn asked files said → Stands words files (Stopped said)
+  stands_from files stop.ReadFault stops =
+      let read = comes_read files.contents asked (opens stops.name) stops.opened in
+      record { asked = asked; means = means; helds = read.0; follows = read.1; name = stops.name; opened = read.2; rose = stops.rose; blame = stops.blame }
+  stands_from files (stop.Refused place detail) stops =
+      let read = comes_read files.contents asked (refuses place detail) stops in
+      record { asked = asked; means = means; helds = read.0; follows = read.1; is_refused = read.2 }
+  stands_from files stop.NoMemory stops = tt
 
-pub gives_from : (words : List (List ℕ)) (contents : Option Contents) (command : Command) (name held text : List ℕ) → IsCommand words command name → Reads contents name held → IsResultOf command held text → Gives words contents text
-gives_from words contents command name held text asked reads is = record {
-  command = command;
-  name = name;
-  held = held;
-  asked = asked;
-  reads = reads;
-  is_result = is;
-  faithful = λ job run text_of. faithful job text_of.within;
-}
+-- ---- where contents are told, a call has one end
 
-pub stands_from_read : (words : List (List ℕ)) (contents : Option Contents) (command : Command) (name : List ℕ) (before now : ℕ) (blamed : Option (List ℕ)) (complaint : Complaint)
-    → IsCommand words command name → StandsAt contents name before now blamed complaint → Stands words contents before now blamed complaint
-stands_from_read words contents command name before now blamed Usage asked at = absurd at
-stands_from_read words contents command name before now blamed ReadFault asked at = record { command = command; name = name; asked = asked; rose = at.0; blame = at.1 }
-stands_from_read words contents command name before now blamed (Refused refusal) asked at =
-    record { command = command; name = name; held = at.1; asked = asked; reads = at.2; refused = rw at.0 at.3 }
-stands_from_read words contents command name before now blamed NoMemory asked at = tt
+same_some : {A : Type 0} (x y : A) → ◌≡◌ {A = Option A} (Some x) (Some y) → x ≡ y
+same_some x y e = ap (λ o. unwrap_or o x) e
 
-pub stands_from_text : (words : List (List ℕ)) (contents : Option Contents) (command : Command) (name held : List ℕ) (before now : ℕ) (blamed : Option (List ℕ)) (complaint : Complaint)
-    → IsCommand words command name → Reads contents name held → RefusesAt command held complaint → Stands words contents before now blamed complaint
-stands_from_text words contents command name held before now blamed Usage asked reads at = absurd at
-stands_from_text words contents command name held before now blamed ReadFault asked reads at = absurd at
-stands_from_text words contents command name held before now blamed (Refused refusal) asked reads at = record { command = command; name = name; held = held; asked = asked; reads = reads; refused = at }
-stands_from_text words contents command name held before now blamed NoMemory asked reads at = tt
+same_end : (contents : Option Contents) (asked : AskedValue) (helds others : Helds) (step end : Step (List ℕ)) → IsSome contents → Follows contents asked [] helds → Follows contents asked [] others → IsEnd step → IsEnd end
+    → IsNext None asked helds step → IsNext None asked others end → step ≡ end
+same_end None asked helds others step end told f g e h comes goes = absurd (cc)
+same_end (Some contents) asked helds others step end told f g e h comes goes =
+    one_end contents asked step end e h (read_comes (Some contents) asked helds step f comes) (read_comes (Some contents) asked others end g goes)
 
-pub if_ok : {T E : Type 0} (P Q : T → Type 0) (result : Result T E) → ((x : T) → P x → Q x) → IfOk result P → IfOk result Q
-if_ok P Q (Ok x) f p = f x p
-if_ok P Q (Err e) f p = tt
+module _ (words : List (List ℕ)) (contents : Option Contents) (asked : AskedValue) (helds : Helds) (holds : Holds words contents asked helds) where
+  -- two ends of one call
+  ends_alike : (other : AskedValue) (others : Helds) (step end : Step (List ℕ)) → meaning words ≡ Some other → Follows contents other [] others → IsEnd step → IsEnd end
+      → IsNext None other others step → IsNext None asked helds end → step ≡ end
+  ends_alike other others step end means follows e h comes goes =
+      let same : other ≡ asked = same_some other asked (sym means ∙ holds.means) in
+      same_end contents asked others helds step end holds.told (subst (λ (a : AskedValue). Follows contents a [] others) same follows) holds.follows e h
+      (subst (λ (a : AskedValue). IsNext None a others step) same comes) goes
 
-pub if_err : {T E : Type 0} (P Q : E → Type 0) (result : Result T E) → ((e : E) → P e → Q e) → IfErr result P → IfErr result Q
-if_err P Q (Ok x) f p = tt
-if_err P Q (Err e) f p = f e p
+  text_in : List ℕ → Step (List ℕ) → List ℕ
+  text_in other (gives text) = text
+  text_in other step = other
 
-same_name : (words : List (List ℕ)) (command command' : Command) (name name' : List ℕ) → IsCommand words command name → IsCommand words command' name' → name ≡ name'
-same_name words command command' name name' one other = ap (λ (l : List (List ℕ)). get_or l 1 []) (sym one.spelt ∙ other.spelt)
+  is_text : Step (List ℕ) → Type 0
+  is_text (gives text) = ⊤
+  is_text step = ⊥
 
--- the command of a word, by its first letter
-abbrev by_letter : ℕ → Command
-by_letter letter = if letter == 114 then Run else (if letter == 97 then Asm else (if letter == 100 then Dis else Image))
+  pub same_text : (text other : List ℕ) → Gives words contents other → IsResultOf asked helds text → other ≡ text
+  unfolding text_in
+  same_text text other given is = ap (text_in text) (ends_alike given.asked given.helds (gives other) (gives text) given.means given.follows tt tt given.is_result is)
 
-by_its_letter : (command : Command) → by_letter (get_or (word_of command) 0 0) ≡ command
-by_its_letter Run = refl
-by_its_letter Asm = refl
-by_its_letter Dis = refl
-by_its_letter Image = refl
+  pub no_text : (text : List ℕ) (place : Place) (detail : Detail) → Gives words contents text → IsRefused asked helds place detail → ⊥
+  unfolding is_text
+  no_text text place detail given is = subst is_text (ends_alike given.asked given.helds (gives text) (refuses place detail) given.means given.follows tt tt given.is_result is) tt
 
-command_by_word : (command command' : Command) → word_of command ≡ word_of command' → command ≡ command'
-command_by_word command command' same = sym (by_its_letter command) ∙ ap (λ (l : List ℕ). by_letter (get_or l 0 0)) same ∙ by_its_letter command'
+  no_refusal : (text : List ℕ) (place : Place) (detail : Detail) → Refuses words contents place detail → IsResultOf asked helds text → ⊥
+  unfolding is_text
+  no_refusal text place detail refused is = subst is_text (sym (ends_alike refused.asked refused.helds (refuses place detail) (gives text) refused.means refused.follows tt tt refused.is_refused is)) tt
 
-same_command : (words : List (List ℕ)) (command command' : Command) (name name' : List ℕ) → IsCommand words command name → IsCommand words command' name' → command ≡ command'
-same_command words command command' name name' one other = command_by_word command command' (ap (λ (l : List (List ℕ)). get_or l 0 []) (sym one.spelt ∙ other.spelt))
+  line_in : Step (List ℕ) → List ℕ
+  line_in (refuses place detail) = refused_line place detail
+  line_in step = []
 
-same_told : (told : Option (List ℕ)) (held other : List ℕ) → told ≡ Some held → IsSomeAnd told (λ t. t ≡ other) → held ≡ other
-same_told told held other is reads = rw is at reads
+  same_refusal : (place at : Place) (detail said : Detail) → Refuses words contents at said → IsRefused asked helds place detail → refused_line at said ≡ refused_line place detail
+  unfolding line_in
+  same_refusal place at detail said refused is = ap line_in (ends_alike refused.asked refused.helds (refuses at said) (refuses place detail) refused.means refused.follows tt tt refused.is_refused is)
 
-same_held : (contents : Option Contents) (name held other : List ℕ) → Holds contents name held → Reads contents name other → held ≡ other
-same_held None name held other holds reads = absurd holds
-same_held (Some contents) name held other holds reads = same_told (contents name) held other holds reads
+  no_usage : meaning words ≡ None → ⊥
+  no_usage none = absurd (cc)
 
--- bytes that are accepted aren't refused
-not_both : (command : Command) (held text : List ℕ) (refusal : Refusal) → IsResultOf command held text → IsRefused refusal command held → ⊥
-not_both Run held text Large is refused = let within = is.1.within in omega arith
-not_both Asm held text Large is refused = let within = is.1.within in omega arith
-not_both Dis held text Large is refused = let within = is.1.within in omega arith
-not_both Image held text Large is refused = let within = is.1.within in omega arith
-not_both Run held text NotBuilt is refused = refused.1 is.0 is.1.job_text
-not_both Asm held text NotText is refused = refused.1 is.1.utf8
-not_both Asm held text (AtLine line cause) is refused =
-    let none = is.1.assembled.faultless in
-    let some = refused.2 in absurd cc
-not_both Dis held text (NoImage fault) is refused = never_both is.0 fault held is.1.bytes refused.1
-not_both Image held text (NoImage fault) is refused = never_both is.0 fault held is.1.bytes refused.1
-not_both command held text refusal is refused = refused
+-- ---- a complaint
 
--- where contents are told, an accepted file isn't refused
-accepted : (words : List (List ℕ)) (contents : Option Contents) (command : Command) (name held text : List ℕ) (refusal : Refusal) → IsCommand words command name → Holds contents name held → IsResultOf command held text
-    → Refuses words contents refusal → ⊥
-accepted words contents command name held text refusal asked holds is refuses =
-    let named : refuses.name ≡ name = same_name words refuses.command command refuses.name name refuses.asked asked in
-    let done : refuses.command ≡ command = same_command words refuses.command command refuses.name name refuses.asked asked in
-    let read : Reads contents name refuses.held = rw named at refuses.reads in
-    let same : held ≡ refuses.held = same_held contents name held refuses.held holds read in
-    not_both command held text refusal is (subst (λ (k : Command). IsRefused refusal k held) done (subst (IsRefused refusal refuses.command) (sym same) refuses.refused))
+module _ (words : List (List ℕ)) (files : FilesCall) (result : ToolStatus) (err : SinkCall) where
+  -- where files are accepted
+  complete_told : (out : SinkCall) (said : Complaint) → Stands words files said → IsTold result err said → TakesAccepted words files.contents out result
+  complete_told out Usage stands told asked helds text holds is = absurd (no_usage words files.contents asked helds holds stands)
+  complete_told out (Stopped stop.ReadFault) stands (inl told) asked helds text holds is = inr (inr (inl told.0))
+  complete_told out (Stopped (stop.Refused place detail)) stands (inl told) asked helds text holds is = absurd (no_refusal words files.contents asked helds holds text place detail stands is)
+  complete_told out (Stopped stop.NoMemory) stands (inl told) asked helds text holds is = inr (inl told.0)
+  complete_told out said stands (inr told) asked helds text holds is = inr (inr (inr told.0))
 
--- where contents are told, a refused file gives no result
-ungiven : (words : List (List ℕ)) (contents : Option Contents) (command : Command) (name held text : List ℕ) (refusal : Refusal) → IsCommand words command name → Holds contents name held → IsRefused refusal command held
-    → Gives words contents text → ⊥
-ungiven words contents command name held text refusal asked holds refused gives =
-    let named : gives.name ≡ name = same_name words gives.command command gives.name name gives.asked asked in
-    let done : gives.command ≡ command = same_command words gives.command command gives.name name gives.asked asked in
-    let read : Reads contents name gives.held = rw named at gives.reads in
-    let same : held ≡ gives.held = same_held contents name held gives.held holds read in
-    not_both gives.command gives.held text refusal gives.is_result (subst (λ (k : Command). IsRefused refusal k gives.held) (sym done) (subst (IsRefused refusal command) same refused))
+  pub complete_complaint : (out : SinkCall) (said : Complaint) → Stands words files said → IsTold result err said ⊎ IsTold result err (Stopped stop.NoMemory) → TakesAccepted words files.contents out result
+  complete_complaint out said stands (inl told) = complete_told out said stands told
+  complete_complaint out said stands (inr told) = complete_told out (Stopped stop.NoMemory) tt told
 
--- a complaint where an accepted file is told
-complete_told : (words : List (List ℕ)) (contents : Option Contents) (before now : ℕ) (blamed : Option (List ℕ)) (status : ToolStatus) (err_before err_now : ℕ) (old new : Option (List ℕ)) (said : Complaint)
-    (command : Command) (name held text : List ℕ) → IsCommand words command name → Holds contents name held → IsResultOf command held text → Stands words contents before now blamed said → IsTold status err_before err_now old new said
-    → (status ≡ DoneStatus) ⊎ ((status ≡ NoMemoryStatus) ⊎ ((status ≡ ReadFaultStatus) ⊎ (status ≡ WriteFaultStatus)))
-complete_told words contents before now blamed status err_before err_now old new Usage command name held text asked holds is stands told = absurd (stands command name asked)
-complete_told words contents before now blamed status err_before err_now old new ReadFault command name held text asked holds is stands (inl told) = inr (inr (inl told.0))
-complete_told words contents before now blamed status err_before err_now old new ReadFault command name held text asked holds is stands (inr told) = inr (inr (inr told.0))
-complete_told words contents before now blamed status err_before err_now old new (Refused refusal) command name held text asked holds is stands told = absurd (accepted words contents command name held text refusal asked holds is stands)
-complete_told words contents before now blamed status err_before err_now old new NoMemory command name held text asked holds is stands (inl told) = inr (inl told.0)
-complete_told words contents before now blamed status err_before err_now old new NoMemory command name held text asked holds is stands (inr told) = inr (inr (inr told.0))
+  -- where they are refused
+  refused_told : (out : SinkCall) (said : Complaint) → Stands words files said → IsTold result err said → RefusesAlways words files out err result
+  refused_told out said stands (inr told) asked helds place detail holds is still out_still quiet = absurd (quiet told.1.0)
+  refused_told out Usage stands (inl told) asked helds place detail holds is still out_still quiet = absurd (no_usage words files.contents asked helds holds stands)
+  refused_told out (Stopped stop.ReadFault) stands (inl told) asked helds place detail holds is still out_still quiet = absurd (still stands.rose)
+  refused_told out (Stopped (stop.Refused at found)) stands (inl told) asked helds place detail holds is still out_still quiet =
+      inl (told.0, subst (λ (l : List ℕ). GrowsBy err l) (same_refusal words files.contents asked helds holds place at detail found stands is) told.1)
+  refused_told out (Stopped stop.NoMemory) stands (inl told) asked helds place detail holds is still out_still quiet = inr told.0
 
-pub complete_complaint : (words : List (List ℕ)) (contents : Option Contents) (before now : ℕ) (blamed : Option (List ℕ)) (status : ToolStatus) (err_before err_now : ℕ) (old new : Option (List ℕ)) (said : Complaint)
-    → Stands words contents before now blamed said → IsTold status err_before err_now old new said ⊎ IsTold status err_before err_now old new NoMemory → (command : Command) (name held text : List ℕ) → IsCommand words command name → Holds contents name held → IsResultOf command held text
-    → (status ≡ DoneStatus) ⊎ ((status ≡ NoMemoryStatus) ⊎ ((status ≡ ReadFaultStatus) ⊎ (status ≡ WriteFaultStatus)))
-complete_complaint words contents before now blamed status err_before err_now old new said stands (inl told) command name held text asked holds is = complete_told words contents before now blamed status err_before err_now old new said command name held text asked holds is stands told
-complete_complaint words contents before now blamed status err_before err_now old new said stands (inr told) command name held text asked holds is = complete_told words contents before now blamed status err_before err_now old new NoMemory command name held text asked holds is tt told
+  pub refused_complaint : (out : SinkCall) (said : Complaint) → Stands words files said → IsTold result err said ⊎ IsTold result err (Stopped stop.NoMemory) → RefusesAlways words files out err result
+  refused_complaint out said stands (inl told) = refused_told out said stands told
+  refused_complaint out said stands (inr told) = refused_told out (Stopped stop.NoMemory) tt told
 
-no_fault : (said : Complaint) → status_of said ≡ WriteFaultStatus → ⊥
-no_fault Usage e = grind arith
-no_fault ReadFault e = grind arith
-no_fault (Refused refusal) e = grind arith
-no_fault NoMemory e = grind arith
+  -- and that is told
+  refusal_told : (said : Complaint) → result ≡ status.Refused → Stands words files said → IsTold result err said → IsRefusal words files.contents err
+  refusal_told Usage is stands (inl told) = absurd (cc)
+  refusal_told (Stopped stop.ReadFault) is stands (inl told) = absurd (cc)
+  refusal_told (Stopped (stop.Refused place detail)) is stands (inl told) = (place, detail, stands, told.1)
+  refusal_told (Stopped stop.NoMemory) is stands (inl told) = absurd (cc)
+  refusal_told said is stands (inr told) = absurd (cc)
 
-fault_told : (words : List (List ℕ)) (contents : Option Contents) (before now : ℕ) (blamed : Option (List ℕ)) (status : ToolStatus) (err_before err_now : ℕ) (old new : Option (List ℕ)) (said : Complaint)
-    → status ≡ WriteFaultStatus → Stands words contents before now blamed said → IsTold status err_before err_now old new said → ErrFails words contents before now blamed err_before err_now old new
-fault_told words contents before now blamed status err_before err_now old new said is stands (inl told) = absurd (no_fault said (sym told.0 ∙ is))
-fault_told words contents before now blamed status err_before err_now old new said is stands (inr told) = record { complaint = said; stands = stands; rose = told.1; part = told.2 }
+  pub refusal_complaint : (said : Complaint) → result ≡ status.Refused → Stands words files said → IsTold result err said ⊎ IsTold result err (Stopped stop.NoMemory) → IsRefusal words files.contents err
+  refusal_complaint said is stands (inl told) = refusal_told said is stands told
+  refusal_complaint said is stands (inr told) = refusal_told (Stopped stop.NoMemory) is tt told
 
-pub fault_complaint : (words : List (List ℕ)) (contents : Option Contents) (before now : ℕ) (blamed : Option (List ℕ)) (status : ToolStatus) (err_before err_now : ℕ) (old new : Option (List ℕ)) (said : Complaint)
-    → status ≡ WriteFaultStatus → Stands words contents before now blamed said → IsTold status err_before err_now old new said ⊎ IsTold status err_before err_now old new NoMemory → ErrFails words contents before now blamed err_before err_now old new
-fault_complaint words contents before now blamed status err_before err_now old new said is stands (inl told) = fault_told words contents before now blamed status err_before err_now old new said is stands told
-fault_complaint words contents before now blamed status err_before err_now old new said is stands (inr told) = fault_told words contents before now blamed status err_before err_now old new NoMemory is tt told
+  no_fault : (said : Complaint) → status_of said ≡ status.WriteFault → ⊥
+  no_fault Usage e = absurd (cc)
+  no_fault (Stopped stop.ReadFault) e = absurd (cc)
+  no_fault (Stopped (stop.Refused place detail)) e = absurd (cc)
+  no_fault (Stopped stop.NoMemory) e = absurd (cc)
 
--- a result where a refused file is told
-pub refused_text : (words : List (List ℕ)) (contents : Option Contents) (status : ToolStatus) (text : List ℕ) → Gives words contents text
-    → (command : Command) (name held : List ℕ) (refusal : Refusal) → IsCommand words command name → Holds contents name held → IsRefused refusal command held → (status ≡ RefusedStatus) ⊎ (status ≡ NoMemoryStatus)
-refused_text words contents status text gives command name held refusal asked holds refused = absurd (ungiven words contents command name held text refusal asked holds refused gives)
+  fault_told : (said : Complaint) → result ≡ status.WriteFault → Stands words files said → IsTold result err said → ErrFails words files err
+  fault_told said is stands (inl told) = absurd (no_fault said (sym told.0 ∙ is))
+  fault_told said is stands (inr told) = record { complaint = said; stands = stands; failed = told.1 }
+
+  pub fault_complaint : (said : Complaint) → result ≡ status.WriteFault → Stands words files said → IsTold result err said ⊎ IsTold result err (Stopped stop.NoMemory) → ErrFails words files err
+  fault_complaint said is stands (inl told) = fault_told said is stands told
+  fault_complaint said is stands (inr told) = fault_told (Stopped stop.NoMemory) is tt told
+
+-- ---- a result
+
+module _ (words : List (List ℕ)) (contents : Option Contents) (result : ToolStatus) (out : SinkCall) (text : List ℕ) (given : Gives words contents text) where
+  pub complete_text : (result ≡ status.Done) ⊎ (result ≡ status.WriteFault) → (result ≡ status.Done → GrowsBy out text) → TakesAccepted words contents out result
+  complete_text (inl done) writes asked helds other holds is = inl (done, subst (λ (t : List ℕ). GrowsBy out t) (same_text words contents asked helds holds other text given is) (writes done))
+  complete_text (inr fault) writes asked helds other holds is = inr (inr (inr fault))

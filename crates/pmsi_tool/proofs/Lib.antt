@@ -1,2 +1,2 @@
-pub mod Pairs
-pub mod Causes
+mod Causes
+mod Commands

@@ -1,4 +1,3 @@
-pub mod Words
-pub mod Results
 pub mod Lines
+pub mod Answers
 pub mod Statuses

@@ -1,74 +1,110 @@
 -- The causes of the statuses, and what each leaves in the sinks.
-use Rattle.std.specs.Prelude.{◌≡◌, ◌⊎◌, ℕ, ◌<◌, ⊤, List, length, Option, Some}
+use Rattle.std.specs.Prelude.{◌≡◌, ◌⊎◌, ℕ, List, [], Option, Some, None, IsSome}
 use Rattle.std.specs.Io.KnownBytes.{Appends}
 use Rattle.pmsi_outside.specs.Causes.{Rose}
 use Rattle.pmsi_outside.specs.Files.{Contents}
 use Rattle.pmsi_outside.specs.Sink.{AppendsPart}
+use Rattle.tool_words.specs.Meaning.{AskedValue, meaning}
+use Rattle.tool_files.specs.declared.refusal.Detail.{Detail}
+use Rattle.tool_files.specs.declared.refusal.Place.{Place}
+use Rattle.tool_files.specs.declared.refusal.Stop.TheVariants as stop
+use Rattle.tool_files.specs.Ordered.{Helds, Follows, IsResultOf, IsRefused}
+use Rattle.tool_files.specs.Stops.{FilesCall}
 use Rattle.pmsi_tool.specs.declared.ToolStatus.{ToolStatus}
-use Rattle.pmsi_tool.specs.declared.ToolStatus.TheVariants.{Usage as UsageStatus, ReadFault as ReadFaultStatus, WriteFault as WriteFaultStatus, Refused as RefusedStatus, NoMemory as NoMemoryStatus}
+use Rattle.pmsi_tool.specs.declared.ToolStatus.TheVariants.{Done, Usage, ReadFault, WriteFault, Refused, NoMemory}
 use Rattle.pmsi_tool.specs.declared.complaint.Complaint.{Complaint}
-use Rattle.pmsi_tool.specs.declared.complaint.Complaint.TheVariants.{Usage, ReadFault, Refused, NoMemory}
-use Rattle.pmsi_model.specs.declared.limits.TheConstants.{MAX_FILE_BYTES}
-use Rattle.pmsi_tool.specs.declared.words.Command.{Command}
-use Rattle.pmsi_tool.specs.declared.complaint.Refusal.TheVariants.{Large}
-use Rattle.pmsi_tool.specs.Words.{IsCommand}
-use Rattle.pmsi_tool.specs.Results.{Reads, Gives, Refuses}
-use Rattle.pmsi_tool.specs.Lines.{line_of, write_fault_line}
+use Rattle.pmsi_tool.specs.declared.complaint.Complaint.TheVariants as complaint
+use Rattle.pmsi_tool.specs.Answers.{Gives, Refuses, IsUnread, Stands}
+use Rattle.pmsi_tool.specs.Lines.{line_of, usage_line, read_fault_line, refused_line, write_fault_line}
 
--- the words name a command and its file, the count of the files' faults rose, and the file's name is blamed
-pub record IsReadFault (words : List (List ℕ)) (before now : ℕ) (blamed : Option (List ℕ)) : Type 0 where
-  pub command : Command
-  pub name : List ℕ
-  pub asked : IsCommand words command name
-  pub rose : Rose before now
-  pub blame : blamed ≡ Some name
+-- ---- sinks
 
--- the cause of a complaint stands; want of memory needs none
-abbrev pub Stands : List (List ℕ) → Option Contents → ℕ → ℕ → Option (List ℕ) → Complaint → Type 0
-Stands words contents before now blamed Usage = (command : Command) (name : List ℕ) → IsCommand words command name → ⊥
-Stands words contents before now blamed ReadFault = IsReadFault words before now blamed
-Stands words contents before now blamed (Refused refusal) = Refuses words contents refusal
-Stands words contents before now blamed NoMemory = ⊤
+-- a sink in a call: its counts of faults before and after, and what it holds before and after, where it tells that
+pub record SinkCall : Type 0 where
+  pub before : ℕ
+  pub now : ℕ
+  pub old : Option (List ℕ)
+  pub new : Option (List ℕ)
 
--- why the file that the words name isn't read whole
-abbrev pub StandsAt : Option Contents → List ℕ → ℕ → ℕ → Option (List ℕ) → Complaint → Type 0
-StandsAt contents name before now blamed Usage = ⊥
-StandsAt contents name before now blamed ReadFault = Rose before now × (blamed ≡ Some name)
-StandsAt contents name before now blamed (Refused refusal) = (refusal ≡ Large) × (held : List ℕ) × Reads contents name held × MAX_FILE_BYTES < length held
-StandsAt contents name before now blamed NoMemory = ⊤
+abbrev pub sink_call : ℕ → ℕ → Option (List ℕ) → Option (List ℕ) → SinkCall
+sink_call before now old new = record { before = before; now = now; old = old; new = new }
 
-abbrev pub status_of : Complaint → ToolStatus
-status_of Usage = UsageStatus
-status_of ReadFault = ReadFaultStatus
-status_of (Refused refusal) = RefusedStatus
-status_of NoMemory = NoMemoryStatus
+-- what is held is as before, followed by a text
+abbrev pub GrowsBy : SinkCall → List ℕ → Type 0
+GrowsBy sink text = Appends sink.old sink.new text
 
--- a line went to a sink and the status is as wanted, or the sink failed in it
-abbrev pub Tells : ToolStatus → ToolStatus → ℕ → ℕ → Option (List ℕ) → Option (List ℕ) → List ℕ → Type 0
-Tells wanted status before now old new line =
-    ((status ≡ wanted) × Appends old new line) ⊎ ((status ≡ WriteFaultStatus) × Rose before now × AppendsPart old new line)
-
--- a complaint was told
-abbrev pub IsTold : ToolStatus → ℕ → ℕ → Option (List ℕ) → Option (List ℕ) → Complaint → Type 0
-IsTold status before now old new complaint = Tells (status_of complaint) status before now old new (line_of complaint)
+-- the sink failed in a text, of which it has a front more
+abbrev pub FailsIn : SinkCall → List ℕ → Type 0
+FailsIn sink text = Rose sink.before sink.now × AppendsPart sink.old sink.new text
 
 -- a line went to a sink, or the sink failed in it
-abbrev pub LeavesFront : ℕ → ℕ → Option (List ℕ) → Option (List ℕ) → List ℕ → Type 0
-LeavesFront before now old new line = Appends old new line ⊎ (Rose before now × AppendsPart old new line)
+abbrev pub LeavesFront : SinkCall → List ℕ → Type 0
+LeavesFront sink line = GrowsBy sink line ⊎ FailsIn sink line
+
+-- ---- complaints
+
+abbrev pub status_of : Complaint → ToolStatus
+status_of complaint.Usage = Usage
+status_of (complaint.Stopped stop.ReadFault) = ReadFault
+status_of (complaint.Stopped (stop.Refused place detail)) = Refused
+status_of (complaint.Stopped stop.NoMemory) = NoMemory
+
+-- a line went to a sink and the status is as wanted, or the sink failed in it
+abbrev pub TellsLine : ToolStatus → ToolStatus → SinkCall → List ℕ → Type 0
+TellsLine wanted status sink line = ((status ≡ wanted) × GrowsBy sink line) ⊎ ((status ≡ WriteFault) × FailsIn sink line)
+
+-- a complaint was told
+abbrev pub IsTold : ToolStatus → SinkCall → Complaint → Type 0
+IsTold status sink said = TellsLine (status_of said) status sink (line_of said)
+
+-- ---- the clauses of a call, by its status
+
+-- there is a result, and `out` has it
+abbrev pub IsDone : List (List ℕ) → Option Contents → SinkCall → Type 0
+IsDone words contents out = (text : List ℕ) × Gives words contents text × GrowsBy out text
+
+-- the words ask for nothing, and that is told
+abbrev pub IsUsage : List (List ℕ) → SinkCall → Type 0
+IsUsage words err = (meaning words ≡ None) × GrowsBy err usage_line
+
+-- a file couldn't be read, and that is told
+abbrev pub ReadFails : List (List ℕ) → FilesCall → SinkCall → Type 0
+ReadFails words files err = IsUnread words files × GrowsBy err read_fault_line
+
+-- the files are refused, and why is told
+abbrev pub IsRefusal : List (List ℕ) → Option Contents → SinkCall → Type 0
+IsRefusal words contents err =
+    (place : Place) × (detail : Detail) × Refuses words contents place detail × GrowsBy err (refused_line place detail)
 
 -- there is a result, and `out` failed in it
-pub record OutFails (words : List (List ℕ)) (contents : Option Contents) (out_before out_now : ℕ) (out_old out_new : Option (List ℕ))
-    (err_before err_now : ℕ) (err_old err_new : Option (List ℕ)) : Type 0 where
+pub record OutFails (words : List (List ℕ)) (contents : Option Contents) (out err : SinkCall) : Type 0 where
   pub text : List ℕ
   pub gives : Gives words contents text
-  pub rose : Rose out_before out_now
-  pub part : AppendsPart out_old out_new text
-  pub told : LeavesFront err_before err_now err_old err_new write_fault_line
+  pub failed : FailsIn out text
+  pub told : LeavesFront err write_fault_line
 
 -- a complaint has its cause, and `err` failed in its line
-pub record ErrFails (words : List (List ℕ)) (contents : Option Contents) (before now : ℕ) (blamed : Option (List ℕ))
-    (err_before err_now : ℕ) (err_old err_new : Option (List ℕ)) : Type 0 where
+pub record ErrFails (words : List (List ℕ)) (files : FilesCall) (err : SinkCall) : Type 0 where
   pub complaint : Complaint
-  pub stands : Stands words contents before now blamed complaint
-  pub rose : Rose err_before err_now
-  pub part : AppendsPart err_old err_new (line_of complaint)
+  pub stands : Stands words files complaint
+  pub failed : FailsIn err (line_of complaint)
+
+-- where contents are told, these are bytes of the files of what the words ask for
+pub record Holds (words : List (List ℕ)) (contents : Option Contents) (asked : AskedValue) (helds : Helds) : Type 0 where
+  pub means : meaning words ≡ Some asked
+  pub told : IsSome contents
+  pub follows : Follows contents asked [] helds
+
+-- accepted files are never refused: what they come to is written, unless something fails or memory runs out
+abbrev pub TakesAccepted : List (List ℕ) → Option Contents → SinkCall → ToolStatus → Type 0
+TakesAccepted words contents out status =
+    (asked : AskedValue) (helds : Helds) (text : List ℕ) → Holds words contents asked helds → IsResultOf asked helds text
+    → ((status ≡ Done) × GrowsBy out text) ⊎ ((status ≡ NoMemory) ⊎ ((status ≡ ReadFault) ⊎ (status ≡ WriteFault)))
+
+-- where a refusal has its cause and nothing fails, it comes
+abbrev pub RefusesAlways : List (List ℕ) → FilesCall → SinkCall → SinkCall → ToolStatus → Type 0
+RefusesAlways words files out err status =
+    (asked : AskedValue) (helds : Helds) (place : Place) (detail : Detail) → Holds words files.contents asked helds
+    → IsRefused asked helds place detail
+    → (Rose files.before files.now → ⊥) → (Rose out.before out.now → ⊥) → (Rose err.before err.now → ⊥)
+    → ((status ≡ Refused) × GrowsBy err (refused_line place detail)) ⊎ (status ≡ NoMemory)

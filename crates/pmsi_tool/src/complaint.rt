@@ -1,40 +1,22 @@
 //! What is told on `err`.
 ghost use Rattle.std.specs.Prelude.{◌≡◌};
+ghost use Rattle.pmsi_tool.specs.declared.complaint.Complaint.TheVariants.{Stopped};
 
-use asm_parse::AsmCause;
-use image_file::ImageFault;
-use pmsi_model::NoMemory;
-
-/// Why the file that the words name gives no result.
-#[derive(Clone, Copy, Debug, PartialEq, Eq)]
-pub enum Refusal {
-    /// It has more than `MAX_FILE_BYTES` bytes.
-    Large,
-    /// It is no text of a job, in the form that is read so far.
-    NotBuilt,
-    /// It is no image: the first check that fails.
-    NoImage(ImageFault),
-    /// It isn't UTF-8.
-    NotText,
-    /// It is no source of an image: the first fault of its two rounds, with its line, from 1 on.
-    AtLine(u32, AsmCause),
-}
+use tool_files::Stop;
 
 /// An answer that is told on `err` by its line.
 #[derive(Clone, Copy, Debug, PartialEq, Eq)]
 pub enum Complaint {
+    /// The words ask for nothing.
     Usage,
-    ReadFault,
-    Refused(Refusal),
-    NoMemory,
+    /// The command came to no result on its files.
+    Stopped(Stop),
 }
 
-impl From<NoMemory> for Complaint {
-    ghost use Rattle.pmsi_tool.specs.declared.complaint.Complaint.TheVariants.{NoMemory};
+impl From<Stop> for Complaint {
+    ghost from_gives = { λ stop e. e ≡ Stopped stop };
 
-    ghost from_gives = { λ _ e. e ≡ NoMemory };
-
-    fn from(_: NoMemory) -> Complaint {
-        Complaint::NoMemory
+    fn from(stop: Stop) -> Complaint {
+        Complaint::Stopped(stop)
     }
 }

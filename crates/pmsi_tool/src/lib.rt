@@ -1,28 +1,24 @@
-//! The program's commands as one call: words, files and two sinks go in, and a status comes out. So far there are the
-//! commands `run`, `asm`, `dis` and `image`, each with the name of a file.
+//! The program's commands as one call: words, files and two sinks go in, and a status comes out. The commands are `run`,
+//! `asm`, `dis` and `image`.
 #![tactic(auto)]
 
-ghost use Rattle.std.specs.Prelude.{◌≡◌, ◌≢◌, ◌⊎◌, ℕ, List, map, string_bytes};
-ghost use Rattle.std.specs.Io.KnownBytes.{Appends};
-ghost use Rattle.pmsi_outside.specs.Causes.{Rose};
-ghost use Rattle.pmsi_tool.specs.declared.complaint.Refusal.{Refusal};
-ghost use Rattle.pmsi_tool.specs.declared.words.Command.{Command};
-ghost use Rattle.pmsi_tool.specs.Words.{IsCommand};
-ghost use Rattle.pmsi_tool.specs.Results.{Gives, Holds, IsRefused, IsResultOf, Refuses};
-ghost use Rattle.pmsi_tool.specs.Statuses.{IsReadFault, OutFails, ErrFails};
-ghost use Rattle.pmsi_tool.specs.Lines.{usage_line, read_fault_line, refused_line, no_memory_line};
+ghost use Rattle.std.specs.Prelude.{◌≡◌, ◌≢◌, ◌⊎◌, map, string_bytes};
+ghost use Rattle.pmsi_tool.specs.Statuses.{IsDone, IsUsage, ReadFails, IsRefusal, OutFails, ErrFails, TakesAccepted, RefusesAlways};
+ghost use Rattle.tool_files.specs.Stops.{files_call};
+ghost use Rattle.pmsi_tool.specs.Statuses.{GrowsBy, sink_call};
+ghost use Rattle.pmsi_tool.specs.Lines.{no_memory_line};
 
 mod answer;
 mod complaint;
+mod lines;
 mod tell;
-mod words;
 
 use answer::answer_of;
-pub use complaint::{Complaint, Refusal};
+pub use complaint::Complaint;
 use pmsi_outside::{Files, Sink};
 use std::alloc::Global;
+pub use tell::tell_no_memory;
 use tell::{complain, write_text};
-pub use words::Command;
 
 #[cfg(test)]
 mod tests;
@@ -30,11 +26,17 @@ mod tests;
 /// How a call ended. The numbers are the program's exit statuses.
 #[derive(Clone, Copy, Debug, PartialEq, Eq)]
 pub enum ToolStatus {
+    /// The result was written.
     Done = 0,
+    /// The words ask for nothing that this call does.
     Usage = 2,
+    /// A file couldn't be opened or read.
     ReadFault = 3,
+    /// `out` failed in the result, or `err` in the line of another status.
     WriteFault = 4,
+    /// The files give no result: the line on `err` says why.
     Refused = 5,
+    /// Memory ran out.
     NoMemory = 6,
 }
 
@@ -48,36 +50,33 @@ pub fn tool<F: Files, O: Sink, E: Sink>(
     err: &mut E,
 ) -> ToolStatus
     // The result of the command was written; where a job was run, its machine is faithful.
-    ensures done { result ≡ ToolStatus.Done → (text : List ℕ)
-        × Gives (map string_bytes words.now) (F.contents files.old) text
-        × Appends (O.held out.old) (O.held out.new) text }
+    ensures done { result ≡ ToolStatus.Done → IsDone (map string_bytes words.now) (F.contents files.old)
+        (sink_call (O.faults out.old) (O.faults out.new) (O.held out.old) (O.held out.new)) }
     ensures done_silent { result ≡ ToolStatus.Done → err.new ≡ err.old }
-    ensures usage { result ≡ ToolStatus.Usage → ((command : Command) (name : List ℕ) → IsCommand (map string_bytes words.now) command name → ⊥)
-        × Appends (E.held err.old) (E.held err.new) usage_line }
-    ensures read_fault { result ≡ ToolStatus.ReadFault →
-        IsReadFault (map string_bytes words.now) (F.faults files.old) (F.faults files.new) (F.blamed files.new)
-        × Appends (E.held err.old) (E.held err.new) read_fault_line }
-    ensures refused { result ≡ ToolStatus.Refused → (refusal : Refusal)
-        × Refuses (map string_bytes words.now) (F.contents files.old) refusal
-        × Appends (E.held err.old) (E.held err.new) (refused_line refusal) }
-    ensures no_memory { result ≡ ToolStatus.NoMemory → Appends (E.held err.old) (E.held err.new) no_memory_line }
-    ensures write_fault { result ≡ ToolStatus.WriteFault →
-        OutFails (map string_bytes words.now) (F.contents files.old) (O.faults out.old) (O.faults out.new) (O.held out.old) (O.held out.new)
-        (E.faults err.old) (E.faults err.new) (E.held err.old) (E.held err.new)
-        ⊎ ((out.new ≡ out.old)
-        × ErrFails (map string_bytes words.now) (F.contents files.old) (F.faults files.old) (F.faults files.new) (F.blamed files.new)
-        (E.faults err.old) (E.faults err.new) (E.held err.old) (E.held err.new)) }
+    ensures usage { result ≡ ToolStatus.Usage → IsUsage (map string_bytes words.now)
+        (sink_call (E.faults err.old) (E.faults err.new) (E.held err.old) (E.held err.new)) }
+    ensures read_fault { result ≡ ToolStatus.ReadFault → ReadFails (map string_bytes words.now)
+        (files_call (F.contents files.old) (F.faults files.old) (F.faults files.new) (F.blamed files.new))
+        (sink_call (E.faults err.old) (E.faults err.new) (E.held err.old) (E.held err.new)) }
+    ensures refused { result ≡ ToolStatus.Refused → IsRefusal (map string_bytes words.now) (F.contents files.old)
+        (sink_call (E.faults err.old) (E.faults err.new) (E.held err.old) (E.held err.new)) }
+    ensures no_memory { result ≡ ToolStatus.NoMemory → GrowsBy
+        (sink_call (E.faults err.old) (E.faults err.new) (E.held err.old) (E.held err.new)) no_memory_line }
+    ensures write_fault { result ≡ ToolStatus.WriteFault → OutFails (map string_bytes words.now) (F.contents files.old)
+        (sink_call (O.faults out.old) (O.faults out.new) (O.held out.old) (O.held out.new))
+        (sink_call (E.faults err.old) (E.faults err.new) (E.held err.old) (E.held err.new))
+        ⊎ ((out.new ≡ out.old) × ErrFails (map string_bytes words.now)
+        (files_call (F.contents files.old) (F.faults files.old) (F.faults files.new) (F.blamed files.new))
+        (sink_call (E.faults err.old) (E.faults err.new) (E.held err.old) (E.held err.new))) }
     ensures untouched { result ≢ ToolStatus.Done → result ≢ ToolStatus.WriteFault → out.new ≡ out.old }
-    // An accepted file is never refused.
-    ensures complete { (command : Command) (name held text : List ℕ) → IsCommand (map string_bytes words.now) command name
-        → Holds (F.contents files.old) name held → IsResultOf command held text
-        → (result ≡ ToolStatus.Done) ⊎ ((result ≡ ToolStatus.NoMemory) ⊎ ((result ≡ ToolStatus.ReadFault) ⊎ (result ≡ ToolStatus.WriteFault))) }
+    // Files that are accepted are never refused.
+    ensures complete { TakesAccepted (map string_bytes words.now) (F.contents files.old)
+        (sink_call (O.faults out.old) (O.faults out.new) (O.held out.old) (O.held out.new)) result }
     // Where a refusal has its cause and nothing fails, it comes.
-    ensures refused_always { (command : Command) (name held : List ℕ) (refusal : Refusal) → IsCommand (map string_bytes words.now) command name
-        → Holds (F.contents files.old) name held → IsRefused refusal command held
-        → (Rose (F.faults files.old) (F.faults files.new) → ⊥) → (Rose (O.faults out.old) (O.faults out.new) → ⊥)
-        → (Rose (E.faults err.old) (E.faults err.new) → ⊥)
-        → (result ≡ ToolStatus.Refused) ⊎ (result ≡ ToolStatus.NoMemory) }
+    ensures refused_always { RefusesAlways (map string_bytes words.now)
+        (files_call (F.contents files.old) (F.faults files.old) (F.faults files.new) (F.blamed files.new))
+        (sink_call (O.faults out.old) (O.faults out.new) (O.held out.old) (O.held out.new))
+        (sink_call (E.faults err.old) (E.faults err.new) (E.held err.old) (E.held err.new)) result }
     ensures contents { F.contents files.new ≡ F.contents files.old }
 {
     match answer_of(alloc, words, files) {

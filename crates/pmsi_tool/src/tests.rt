@@ -5,74 +5,15 @@ use std::process::Abort;
 use std::test::Fail;
 
 mod asm;
+mod faults;
+mod jobs;
+mod steps;
+mod words;
 
-const HEADS: &str = "pmsi 1\ncores 1\nquantum 1\nline 4\nsets 1\nways 1\nmemory 64\nslots 4\n";
+/// The name of a file, and its bytes.
+type File = (&'static str, &'static [u8]);
 
-const ADDS: &str = "core 0 hex 00700293 00000073\n";
-
-const STORES: &str = "core 0 hex 00700293 00502023 00002303 00000073\n";
-
-const STORED: &str = "pmsi listing 1
-cores 1 quantum 1 line 4 sets 1 ways 1 memory 64 slots 4
-core 0 pc 0x0000000c retired 3 exit 0
-regs x5=0x00000007 x6=0x00000007 x11=0x00000001
-held 0:M
-mem 0x00000000 07000000000000000000000000000000
-row core 0 line 0 write issue 1 post 1 fill 1 wait 1
-waits 0 count 1 greatest 1 sum 1
-bound 8
-end
-";
-
-const ADDED: &str = "pmsi listing 1
-cores 1 quantum 1 line 4 sets 1 ways 1 memory 64 slots 4
-core 0 pc 0x00000004 retired 1 exit 0
-regs x5=0x00000007 x11=0x00000001
-held
-waits 0 count 0 greatest 0 sum 0
-bound 8
-end
-";
-
-const NOT_STARTED: &str = "pmsi listing 1
-cores 1 quantum 1 line 4 sets 1 ways 1 memory 64 slots 0
-core 0 pc 0x00000000 retired 0 running
-regs x11=0x00000001
-held
-waits 0 count 0 greatest 0 sum 0
-bound 8
-end
-";
-
-/// The second store needs the line of the first, which is written back.
-const WRITTEN_BACK: &str = "pmsi listing 1
-cores 1 quantum 1 line 4 sets 1 ways 1 memory 64 slots 4
-core 0 pc 0x00000008 retired 2 exit 0
-regs x11=0x00000001
-held 1:M
-mem 0x00000000 01000000000000000000000000000000
-mem 0x00000010 01000000000000000000000000000000
-row core 0 line 0 write issue 0 post 0 fill 0 wait 1
-row core 0 line 1 write issue 1 post 2 fill 2 wait 2
-waits 0 count 2 greatest 2 sum 3
-bound 8
-end
-";
-
-/// The register gets the old word, 0, and memory the 9 that stood in it.
-const SWAPPED: &str = "pmsi listing 1
-cores 1 quantum 1 line 4 sets 1 ways 1 memory 64 slots 3
-core 0 pc 0x00000008 retired 2 exit 0
-regs x11=0x00000001
-held 0:M
-mem 0x00000000 09000000000000000000000000000000
-row core 0 line 0 write issue 1 post 1 fill 1 wait 1
-waits 0 count 1 greatest 1 sum 1
-bound 8
-end
-";
-
-fn words(alloc: Global, texts: &[&str]) -> Result<Vec<String>, AllocError> {
+fn words_of(alloc: Global, texts: &[&str]) -> Result<Vec<String>, AllocError> {
     let mut words = Vec::new(alloc);
     for text in texts {
         words.push(String::from_str(alloc, text)?)?;
@@ -80,22 +21,48 @@ fn words(alloc: Global, texts: &[&str]) -> Result<Vec<String>, AllocError> {
     Ok(words)
 }
 
-/// The bytes of a small job, by its heads and the line of its core.
-fn job(alloc: Global, heads: &str, line: &str) -> Result<Vec<u8>, AllocError> {
-    let mut bytes = heads.as_bytes().to_vec(alloc)?;
-    bytes.extend_from_slice(line.as_bytes())?;
-    Ok(bytes)
-}
-
 /// One file, whose name is `a.job`.
-fn listed(alloc: Global, bytes: Vec<u8>) -> Result<Vec<(String, Vec<u8>)>, AllocError> {
+fn one(alloc: Global, bytes: Vec<u8>) -> Result<Vec<(String, Vec<u8>)>, AllocError> {
     let mut list = Vec::new(alloc);
     list.push((String::from_str(alloc, "a.job")?, bytes))?;
     Ok(list)
 }
 
+/// These files, and a job of this text, whose name is `a.job`.
+fn with_job(
+    alloc: Global,
+    job: &str,
+    files: &[File],
+) -> Result<Vec<(String, Vec<u8>)>, AllocError> {
+    let mut list = one(alloc, job.as_bytes().to_vec(alloc)?)?;
+    for (name, bytes) in files {
+        list.push((String::from_str(alloc, name)?, bytes.to_vec(alloc)?))?;
+    }
+    Ok(list)
+}
+
+/// The files of a job whose cores have these sources: the job is `a.job`, and the source of core 0 is `0.s`.
+fn job_files(
+    alloc: Global,
+    heads: &str,
+    sources: &[&str],
+) -> Result<Vec<(String, Vec<u8>)>, AllocError> {
+    let mut text = format!(in alloc; "pmsi 1\ncores {}\n{heads}\n", sources.len())?;
+    let mut list = Vec::new(alloc);
+    for (core, source) in sources.iter().enumerate() {
+        let line = format!(in alloc; "core {core} asm {core}.s\n")?;
+        text.push_str(line.as_str())?;
+        list.push((
+            format!(in alloc; "{core}.s")?,
+            source.as_bytes().to_vec(alloc)?,
+        ))?;
+    }
+    list.push((String::from_str(alloc, "a.job")?, text.into_bytes()))?;
+    Ok(list)
+}
+
 fn sink(alloc: Global, step: u32, fails: Vec<u64>) -> Result<MemorySink, AllocError> {
-    let room = vec![in alloc; 0u8; 1024]?;
+    let room = vec![in alloc; 0u8; 16_384]?;
     Ok(MemorySink::new(room, step.max(1), fails))
 }
 
@@ -115,277 +82,159 @@ fn call<F: Files>(
     mut out: MemorySink,
     mut err: MemorySink,
 ) -> Result<Ran, AllocError> {
-    let given = words(alloc, texts)?;
-    let status = tool(alloc, &given, files, &mut out, &mut err);
+    let words = words_of(alloc, texts)?;
+    let status = tool(alloc, &words, files, &mut out, &mut err);
     Ok(Ran { status, out, err })
 }
 
-/// Runs the file of these bytes.
-fn run(alloc: Global, bytes: Vec<u8>, texts: &[&str]) -> Result<Ran, AllocError> {
-    let mut files = SteadyFiles::new(listed(alloc, bytes)?);
-    let out = sink(alloc, 1024, Vec::new(alloc))?;
-    let err = sink(alloc, 1024, Vec::new(alloc))?;
+/// Calls `tool` with files and sinks that never fail.
+fn run(alloc: Global, texts: &[&str], list: Vec<(String, Vec<u8>)>) -> Result<Ran, AllocError> {
+    let mut files = SteadyFiles::new(list);
+    let out = sink(alloc, 16_384, Vec::new(alloc))?;
+    let err = sink(alloc, 16_384, Vec::new(alloc))?;
     call(alloc, texts, &mut files, out, err)
 }
 
-/// A command on these bytes ends well, and writes exactly this.
-fn writes(
-    rt: &impl Abort,
+/// Calls `tool` with files that give 4,096 bytes at a time, and whose call of this number fails.
+fn run_failing(
     alloc: Global,
-    command: &str,
-    bytes: Vec<u8>,
-    text: &[u8],
-) -> Result<(), AllocError> {
-    let ran = run(alloc, bytes, &[command, "a.job"])?;
-    assert_eq!(rt; ran.status, ToolStatus::Done);
-    assert_eq!(rt; ran.out.bytes(), text);
-    assert!(rt; ran.err.bytes().is_empty());
+    texts: &[&str],
+    list: Vec<(String, Vec<u8>)>,
+    number: u64,
+) -> Result<Ran, AllocError> {
+    let mut files = MemoryFiles::new(list, 4096, Vec::from_array(alloc, [number])?);
+    let out = sink(alloc, 16_384, Vec::new(alloc))?;
+    let err = sink(alloc, 16_384, Vec::new(alloc))?;
+    call(alloc, texts, &mut files, out, err)
+}
+
+/// A call ended well, and wrote exactly this. The label says which of a table's rows it was.
+fn wrote(rt: &impl Abort, label: &str, ran: &Ran, text: &[u8]) {
+    assert_eq!(rt; ran.status, ToolStatus::Done, "{label}");
+    assert_eq!(rt; ran.out.bytes(), text, "{label}");
+    assert!(rt; ran.err.bytes().is_empty(), "{label}");
+}
+
+/// A call ended with this status, wrote nothing, and told exactly this line.
+fn told(rt: &impl Abort, label: &str, ran: &Ran, status: ToolStatus, line: &str) {
+    assert_eq!(rt; ran.err.bytes(), line.as_bytes(), "{label}");
+    assert_eq!(rt; ran.status, status, "{label}");
+    assert!(rt; ran.out.bytes().is_empty(), "{label}");
+}
+
+/// A call was refused, and told exactly this place and detail.
+fn refused(rt: &impl Abort, alloc: Global, ran: &Ran, why: &str) -> Result<(), AllocError> {
+    let line = format!(in alloc; "refused: {why}\n")?;
+    told(rt, why, ran, ToolStatus::Refused, line.as_str());
     Ok(())
 }
 
-/// A job gives exactly this listing.
-fn lists(
-    rt: &impl Abort,
-    alloc: Global,
-    heads: &str,
-    line: &str,
-    text: &str,
-) -> Result<(), AllocError> {
-    writes(rt, alloc, "run", job(alloc, heads, line)?, text.as_bytes())
-}
-
-/// A command refuses these bytes by exactly this line.
+/// A command refuses these bytes, and exactly this is told of them.
 fn refuses(
     rt: &impl Abort,
     alloc: Global,
     command: &str,
     bytes: Vec<u8>,
-    line: &str,
+    detail: &str,
 ) -> Result<(), AllocError> {
-    let ran = run(alloc, bytes, &[command, "a.job"])?;
-    assert_eq!(rt; ran.status, ToolStatus::Refused);
-    assert!(rt; ran.out.bytes().is_empty());
-    assert_eq!(rt; ran.err.bytes(), line.as_bytes());
-    Ok(())
+    let why = format!(in alloc; "input: {detail}")?;
+    let ran = run(alloc, &[command, "a.job"], one(alloc, bytes)?)?;
+    refused(rt, alloc, &ran, why.as_str())
 }
 
-/// These words are no command.
-fn is_usage(rt: &impl Abort, alloc: Global, texts: &[&str]) -> Result<(), AllocError> {
-    let ran = run(alloc, job(alloc, HEADS, STORES)?, texts)?;
-    assert_eq!(rt; ran.status, ToolStatus::Usage);
-    assert!(rt; ran.out.bytes().is_empty());
-    assert_eq!(rt;
-        ran.err.bytes(),
-        b"usage: pmsi COMMAND [OPTIONS] ARGUMENTS\n".as_slice()
-    );
-    Ok(())
-}
+/// `addi x5, x0, 7` and `ecall`.
+const ADDS_IMAGE: &[u8] = b"PMSIIMG1\x02\0\0\0\0\0\0\0\x93\x02\x70\0\x73\0\0\0";
+
+/// Three words that are 0.
+const ZEROS_IMAGE: &[u8] = b"PMSIIMG1\x03\0\0\0\0\0\0\0\0\0\0\0\0\0\0\0\0\0\0\0";
+
+/// No word, and a piece of one byte at 64.
+const PIECE_IMAGE: &[u8] = b"PMSIIMG1\0\0\0\0\x01\0\0\0\x40\0\0\0\x01\0\0\0\xff";
+
+/// A command, the bytes of its file, and its result.
+const WRITTEN: &[(&str, &[u8], &[u8])] = &[
+    ("image", ADDS_IMAGE, ADDS_IMAGE),
+    ("image", ZEROS_IMAGE, ZEROS_IMAGE),
+    ("image", PIECE_IMAGE, PIECE_IMAGE),
+    (
+        "dis",
+        ZEROS_IMAGE,
+        b".text\n.word 0x00000000\n.word 0x00000000\n.word 0x00000000\n",
+    ),
+    ("dis", ADDS_IMAGE, b".text\naddi x5, x0, 7\necall\n"),
+    (
+        "dis",
+        PIECE_IMAGE,
+        b".text\n.data\n.org 0x00000040\n.byte 0xff\n",
+    ),
+    ("asm", b"addi x5, x0, 7\necall\n", ADDS_IMAGE),
+    ("asm", b".text\naddi x5, x0, 7\necall\n", ADDS_IMAGE),
+];
+
+/// A command, the bytes of its file, and why they are refused.
+const REFUSED: &[(&str, &[u8], &str)] = &[
+    ("dis", b"PMSIIMG1\x02\0\0\0", "short 16 12"),
+    ("image", b"PMSIIMG2\0\0\0\0\0\0\0\0", "magic"),
+    (
+        "dis",
+        b"PMSIIMG1\x03\0\0\0\0\0\0\0\0\0\0\0\0\0\0\0\0\0\0",
+        "short 28 27",
+    ),
+    (
+        "dis",
+        b"PMSIIMG1\x03\0\0\0\0\0\0\0\0\0\0\0\0\0\0\0\0\0\0\0\0",
+        "extra 28",
+    ),
+    ("image", b"PMSIIMG1\x01\x40\0\0\0\0\0\0", "limit 16385"),
+    (
+        "image",
+        b"PMSIIMG1\0\0\0\0\x01\0\0\0\0\0\x10\0\x01\0\0\0\xff",
+        "range 0x00100000",
+    ),
+    (
+        "image",
+        b"PMSIIMG1\0\0\0\0\x02\0\0\0\0\0\0\0\x01\0\0\0\xff\x01\0\0\0\x01\0\0\0\xff",
+        "order 1",
+    ),
+    ("asm", b"\xff", "not text"),
+    ("asm", b"bad\nnop # \xff", "not text"),
+];
 
 #[test]
-fn runs_a_job(rt: HostRuntime) -> Result<(), Fail> {
+fn writes_results(rt: HostRuntime) -> Result<(), Fail> {
     let alloc = rt.alloc();
-    let no_slots = "pmsi 1\ncores 1\nquantum 1\nline 4\nsets 1\nways 1\nmemory 64\nslots 0\n";
-    lists(&rt, alloc, HEADS, STORES, STORED)?;
-    lists(&rt, alloc, HEADS, ADDS, ADDED)?;
-    lists(&rt, alloc, no_slots, ADDS, NOT_STARTED)?;
-    let two_lines = "core 0 hex 00b02023 00b02823 00000073\n";
-    lists(&rt, alloc, HEADS, two_lines, WRITTEN_BACK)?;
+    for (command, bytes, text) in WRITTEN {
+        let list = one(alloc, bytes.to_vec(alloc)?)?;
+        let ran = run(alloc, &[command, "a.job"], list)?;
+        wrote(&rt, command, &ran, text);
+    }
     Ok(())
 }
 
-/// The heads of a job with so many slots.
-fn heads(alloc: Global, slots: &str) -> Result<String, AllocError> {
-    let mut text = String::from_str(
-        alloc,
-        "pmsi 1\ncores 1\nquantum 1\nline 4\nsets 1\nways 1\nmemory 64\nslots ",
-    )?;
-    text.push_str(slots)?;
-    text.push_str("\n")?;
-    Ok(text)
-}
-
-/// A program, within so many slots and without a request, ends with this pc, these instructions retired and this status.
-fn ends(
-    rt: &impl Abort,
-    alloc: Global,
-    slots: &str,
-    line: &str,
-    end: &str,
-) -> Result<(), AllocError> {
-    let mut text = String::from_str(
-        alloc,
-        "pmsi listing 1\ncores 1 quantum 1 line 4 sets 1 ways 1 memory 64 slots ",
-    )?;
-    text.push_str(slots)?;
-    text.push_str("\ncore 0 pc 0x")?;
-    text.push_str(end)?;
-    text.push_str("\nregs x11=0x00000001\nheld\nwaits 0 count 0 greatest 0 sum 0\nbound 8\nend\n")?;
-    let heads = heads(alloc, slots)?;
-    lists(rt, alloc, heads.as_str(), line, text.as_str())
-}
-
-/// A jump to no multiple of four halts and writes no register; a branch that isn't taken may have such a target.
 #[test]
-fn jumps_to_multiples_of_four(rt: HostRuntime) -> Result<(), Fail> {
+fn refuses_files(rt: HostRuntime) -> Result<(), Fail> {
     let alloc = rt.alloc();
-    let jump = "00000000 retired 0 jump 0x00000006";
-    ends(&rt, alloc, "1", "core 0 hex 006000ef\n", jump)?;
-    let passed = "00000004 retired 1 exit 0";
-    ends(&rt, alloc, "2", "core 0 hex 00b00363 00000073\n", passed)?;
-    Ok(())
-}
-
-#[test]
-fn halts_where_no_instruction_stands(rt: HostRuntime) -> Result<(), Fail> {
-    let alloc = rt.alloc();
-    let zeros = "00000000 retired 0 illegal 0x00000000";
-    ends(&rt, alloc, "1", "core 0 hex 00000000\n", zeros)?;
-    let ones = "00000000 retired 0 illegal 0xffffffff";
-    ends(&rt, alloc, "1", "core 0 hex ffffffff\n", ones)?;
-    let fence_i = "00000000 retired 0 illegal 0x0000100f";
-    ends(&rt, alloc, "1", "core 0 hex 0000100f\n", fence_i)?;
-    let fence = "00000004 retired 1 running";
-    ends(&rt, alloc, "1", "core 0 hex 0ff0000f\n", fence)?;
-    let nothing = "00000000 retired 0 fetch 0x00000000";
-    ends(&rt, alloc, "1", "core 0 hex\n", nothing)?;
-    Ok(())
-}
-
-#[test]
-fn halts_at_wrong_addresses_and_breakpoints(rt: HostRuntime) -> Result<(), Fail> {
-    let alloc = rt.alloc();
-    let askew = "00000000 retired 0 misaligned 0x00000002";
-    ends(&rt, alloc, "1", "core 0 hex 00202283\n", askew)?;
-    let beyond = "00000000 retired 0 range 0x00000040";
-    ends(&rt, alloc, "1", "core 0 hex 04002283\n", beyond)?;
-    let ebreak = "00000000 retired 0 break";
-    ends(&rt, alloc, "1", "core 0 hex 00100073\n", ebreak)?;
-    Ok(())
-}
-
-/// An AMO whose destination is its operand, with both ordering bits.
-#[test]
-fn swaps_a_register_with_memory(rt: HostRuntime) -> Result<(), Fail> {
-    let heads = heads(rt.alloc(), "3")?;
-    let line = "core 0 hex 00900293 0e5022af 00000073\n";
-    lists(&rt, rt.alloc(), heads.as_str(), line, SWAPPED)?;
-    Ok(())
-}
-
-#[test]
-fn refuses_two_cores(rt: HostRuntime) -> Result<(), Fail> {
-    let alloc = rt.alloc();
-    let heads = "pmsi 1\ncores 2\nquantum 1\nline 4\nsets 1\nways 1\nmemory 64\nslots 4\n";
-    let bytes = job(alloc, heads, "core 0 hex 00100073\n")?;
-    refuses(&rt, alloc, "run", bytes, "refused: input: not built\n")?;
+    for (command, bytes, detail) in REFUSED {
+        refuses(&rt, alloc, command, bytes.to_vec(alloc)?, detail)?;
+    }
     Ok(())
 }
 
 #[test]
 fn refuses_large_files(rt: HostRuntime) -> Result<(), Fail> {
     let alloc = rt.alloc();
-    let bytes = vec![in alloc; 0u8; 16_777_217]?;
-    refuses(&rt, alloc, "run", bytes, "refused: input: large\n")?;
-    let bytes = vec![in alloc; 0u8; 16_777_217]?;
-    refuses(&rt, alloc, "image", bytes, "refused: input: large\n")?;
-    Ok(())
-}
-
-/// The bytes that an image begins with, and these.
-fn image(alloc: Global, rest: &[u8]) -> Result<Vec<u8>, AllocError> {
-    let mut bytes = b"PMSIIMG1".to_vec(alloc)?;
-    bytes.extend_from_slice(rest)?;
-    Ok(bytes)
-}
-
-/// These bytes behind the first eight are an image's, and are written again.
-fn writes_again(rt: &impl Abort, alloc: Global, rest: &[u8]) -> Result<(), AllocError> {
-    let bytes = image(alloc, rest)?;
-    writes(rt, alloc, "image", image(alloc, rest)?, bytes.as_slice())
-}
-
-/// These bytes behind the first eight are refused by this line.
-fn no_image(rt: &impl Abort, alloc: Global, rest: &[u8], line: &str) -> Result<(), AllocError> {
-    refuses(rt, alloc, "image", image(alloc, rest)?, line)
-}
-
-const THREE_WORDS: &[u8] = b"\x03\0\0\0\0\0\0\0\0\0\0\0\0\0\0\0\0\0\0\0";
-
-/// `addi x5, x0, 7` and `ecall`; three words that are 0; no word, and a piece of one byte at 64.
-#[test]
-fn writes_images_again(rt: HostRuntime) -> Result<(), Fail> {
-    let alloc = rt.alloc();
-    writes_again(&rt, alloc, b"\x02\0\0\0\0\0\0\0\x93\x02\x70\0\x73\0\0\0")?;
-    writes_again(&rt, alloc, THREE_WORDS)?;
-    writes_again(&rt, alloc, b"\0\0\0\0\x01\0\0\0\x40\0\0\0\x01\0\0\0\xff")?;
-    Ok(())
-}
-
-#[test]
-fn disassembles_images(rt: HostRuntime) -> Result<(), Fail> {
-    let alloc = rt.alloc();
-    let adds = image(alloc, b"\x02\0\0\0\0\0\0\0\x93\x02\x70\0\x73\0\0\0")?;
-    writes(&rt, alloc, "dis", adds, b".text\naddi x5, x0, 7\necall\n")?;
-    let piece = image(alloc, b"\0\0\0\0\x01\0\0\0\x40\0\0\0\x01\0\0\0\xff")?;
-    writes(
-        &rt,
-        alloc,
-        "dis",
-        piece,
-        b".text\n.data\n.org 0x00000040\n.byte 0xff\n",
-    )?;
-    let short = image(alloc, b"\x02\0\0\0")?;
-    refuses(&rt, alloc, "dis", short, "refused: input: short 16 12\n")?;
-    Ok(())
-}
-
-#[test]
-fn refuses_what_is_no_image(rt: HostRuntime) -> Result<(), Fail> {
-    let alloc = rt.alloc();
-    let other = b"PMSIIMG2\0\0\0\0\0\0\0\0".to_vec(alloc)?;
-    refuses(&rt, alloc, "image", other, "refused: input: magic\n")?;
-    no_image(
-        &rt,
-        alloc,
-        &THREE_WORDS[..19],
-        "refused: input: short 28 27\n",
-    )?;
-    let longer = b"\x03\0\0\0\0\0\0\0\0\0\0\0\0\0\0\0\0\0\0\0\0";
-    no_image(&rt, alloc, longer, "refused: input: extra 28\n")?;
-    let wordy = b"\x01\x40\0\0\0\0\0\0";
-    no_image(&rt, alloc, wordy, "refused: input: limit 16385\n")?;
-    Ok(())
-}
-
-#[test]
-fn refuses_pieces_out_of_place(rt: HostRuntime) -> Result<(), Fail> {
-    let alloc = rt.alloc();
-    let beyond = b"\0\0\0\0\x01\0\0\0\0\0\x10\0\x01\0\0\0\xff";
-    no_image(&rt, alloc, beyond, "refused: input: range 0x00100000\n")?;
-    let touching = b"\0\0\0\0\x02\0\0\0\0\0\0\0\x01\0\0\0\xff\x01\0\0\0\x01\0\0\0\xff";
-    no_image(&rt, alloc, touching, "refused: input: order 1\n")?;
-    Ok(())
-}
-
-#[test]
-fn knows_its_words(rt: HostRuntime) -> Result<(), Fail> {
-    let alloc = rt.alloc();
-    is_usage(&rt, alloc, &[])?;
-    is_usage(&rt, alloc, &["run"])?;
-    is_usage(&rt, alloc, &["run", ""])?;
-    is_usage(&rt, alloc, &["run", "-a.job"])?;
-    is_usage(&rt, alloc, &["image", "-a.job"])?;
-    is_usage(&rt, alloc, &["asm"])?;
-    is_usage(&rt, alloc, &["dis"])?;
-    is_usage(&rt, alloc, &["runs", "a.job"])?;
-    is_usage(&rt, alloc, &["run", "a.job", "a.job"])?;
+    for command in ["run", "image"] {
+        let large = vec![in alloc; 0u8; 16_777_217]?;
+        refuses(&rt, alloc, command, large, "large")?;
+    }
     Ok(())
 }
 
 #[test]
 fn a_failed_write_leaves_a_front(rt: HostRuntime) -> Result<(), Fail> {
     let alloc = rt.alloc();
-    let mut files = SteadyFiles::new(listed(alloc, job(alloc, HEADS, ADDS)?)?);
+    let list = job_files(alloc, jobs::SMALL, &[jobs::ADDS])?;
+    let mut files = SteadyFiles::new(list);
     let out = sink(alloc, 3, Vec::from_array(alloc, [2])?)?;
     let err = sink(alloc, 1024, Vec::new(alloc))?;
     let ran = call(alloc, &["run", "a.job"], &mut files, out, err)?;
@@ -408,29 +257,6 @@ fn a_failed_line_is_a_write_fault(rt: HostRuntime) -> Result<(), Fail> {
     Ok(())
 }
 
-/// How the call ends that reads 64 bytes at a time, and whose read of this number fails.
-fn run_failing(alloc: Global, number: u64) -> Result<Ran, AllocError> {
-    let list = listed(alloc, job(alloc, HEADS, STORES)?)?;
-    let mut files = MemoryFiles::new(list, 64, Vec::from_array(alloc, [number])?);
-    let out = sink(alloc, 1024, Vec::new(alloc))?;
-    let err = sink(alloc, 1024, Vec::new(alloc))?;
-    call(alloc, &["run", "a.job"], &mut files, out, err)
-}
-
-/// One `open`, two reads that give bytes, and one at the end.
-#[test]
-fn each_read_fails_in_turn(rt: HostRuntime) -> Result<(), Fail> {
-    for number in 1..5u64 {
-        let ran = run_failing(rt.alloc(), number)?;
-        assert_eq!(rt; ran.status, ToolStatus::ReadFault);
-        assert!(rt; ran.out.bytes().is_empty());
-        assert!(rt; ran.err.bytes() == b"read fault\n".as_slice());
-    }
-    let ran = run_failing(rt.alloc(), 5)?;
-    assert_eq!(rt; ran.status, ToolStatus::Done);
-    Ok(())
-}
-
 #[test]
 fn statuses_have_their_numbers(rt: HostRuntime) {
     assert_eq!(rt; ToolStatus::Done as u8, 0);
@@ -448,7 +274,7 @@ fn writes_the_most(
     command: &str,
     bytes: Vec<u8>,
 ) -> Result<(), AllocError> {
-    let mut files = SteadyFiles::new(listed(alloc, bytes)?);
+    let mut files = SteadyFiles::new(one(alloc, bytes)?);
     let out = MemorySink::new(vec![in alloc; 0u8; 65_552]?, 4096, Vec::new(alloc));
     let err = sink(alloc, 1024, Vec::new(alloc))?;
     let ran = call(alloc, &[command, "a.job"], &mut files, out, err)?;
@@ -463,5 +289,6 @@ fn takes_as_many_words_as_the_limit(rt: HostRuntime) -> Result<(), Fail> {
     let mut bytes = vec![in alloc; 0u8; 65_552]?;
     bytes[..16].copy_from_slice(b"PMSIIMG1\0\x40\0\0\0\0\0\0");
     writes_the_most(&rt, alloc, "image", bytes)?;
+    writes_the_most(&rt, alloc, "asm", asm::full(alloc, "a:")?.into_bytes())?;
     Ok(())
 }

@@ -1,6 +1,6 @@
 -- The rows of the instruction table, both ways: a word that a row reads is put together from the fields that it gives,
 -- which are in range; and the word that is put together from fields in range is read by the instruction's row.
-use Rattle.std.proofs.Common.{◌≡◌, ℕ, zero, suc, ◌+◌, ◌*◌, ◌^◌, ◌<◌, ℤ, pos, negsuc, ◌+ℤ◌, List, [], ◌∷◌, Bool, true, false, Option, Some, None, ◌⊎◌, inl, inr, refl, sym, subst, ◌∙◌, arith}
+use Rattle.std.proofs.Common.{◌≡◌, ℕ, zero, suc, ◌+◌, ◌*◌, ◌^◌, ◌<◌, ℤ, pos, negsuc, ◌+ℤ◌, List, [], ◌∷◌, Bool, true, false, Option, Some, None, inl, inr, refl, sym, subst, ◌∙◌, arith}
 use Rattle.std.specs.Prelude.{⊤, if◌then◌else◌}
 use Rattle.std.proofs.lemmas.Int.{ints}
 use Rattle.pmsi_model.specs.declared.instr.Instr.{Instr}
@@ -22,10 +22,6 @@ use Rattle.pmsi_model.specs.Instruction.{Encoding, opcode, funct3, funct7, funct
 use Rattle.rv_decode.specs.Ranges.{IsReg, IsSigned, IsShift, IsImmOf, IsInRange}
 use Rattle.rv_decode.specs.Formats.{imm_bits, i_word, branch_funct3, load_funct3, store_funct3, imm_funct3, imm_field, op_funct3, op_funct7, amo_funct5, amo_funct7, word_for}
 use Rattle.rv_decode.proofs.FormatFields.{IsRType, IsIType, IsSType, IsBType, r_fields, u_fields, i_fields, s_fields, b_fields, j_fields, shift_fields, srai_fields, i_range, s_range, b_range, j_range, shift_range, r_read, i_read, s_read, b_read, u_read, j_read}
-
-either : {A B C : Type 0} → (A → C) → (B → C) → A ⊎ B → C
-either f g (inl a) = f a
-either f g (inr b) = g b
 
 -- tests of fields as equations
 has_one : (a w : ℕ) → has_fields (opcode a ∷ []) w ≡ true → bits_at 0 7 w ≡ a
@@ -51,8 +47,8 @@ ArePutBack (row ∷ rows) = ((w : ℕ) → w < 2 ^ 32 → has_fields row.fixed w
 
 put_back : (rows : List Encoding) (w : ℕ) (instr : Instr) → ArePutBack rows → w < 2 ^ 32 → IsReadBy rows w instr → IsPutBack w instr
 put_back [] w instr all within read = absurd read
-put_back (row ∷ rows) w instr all within read =
-    either (λ here. subst (IsPutBack w) here.1 (all.0 w within here.0)) (put_back rows w instr all.1 within) read
+put_back (row ∷ rows) w instr all within (inl here) = subst (IsPutBack w) here.1 (all.0 w within here.0)
+put_back (row ∷ rows) w instr all within (inr later) = put_back rows w instr all.1 within later
 
 in_reg : (w : ℕ) → IsReg (rd w) × IsReg (rs1 w) × IsReg (rs2 w)
 in_reg w = (omega arith, omega arith, omega arith)

@@ -32,7 +32,8 @@ s_word imm rs2 rs1 f3 op = op + 2 ^ 7 * imm_bits 0 5 imm + 2 ^ 12 * f3 + 2 ^ 15 
 
 abbrev pub b_word : ℤ → ℕ → ℕ → ℕ → ℕ → ℕ
 b_word imm rs2 rs1 f3 op =
-    op + 2 ^ 7 * imm_bits 11 1 imm + 2 ^ 8 * imm_bits 1 4 imm + 2 ^ 12 * f3 + 2 ^ 15 * rs1 + 2 ^ 20 * rs2 + 2 ^ 25 * imm_bits 5 6 imm + 2 ^ 31 * imm_bits 12 1 imm
+    op + 2 ^ 7 * imm_bits 11 1 imm + 2 ^ 8 * imm_bits 1 4 imm + 2 ^ 12 * f3 + 2 ^ 15 * rs1 + 2 ^ 20 * rs2
+    + 2 ^ 25 * imm_bits 5 6 imm + 2 ^ 31 * imm_bits 12 1 imm
 
 abbrev pub u_word : ℕ → ℕ → ℕ → ℕ
 u_word imm rd op = op + 2 ^ 7 * rd + 2 ^ 12 * imm

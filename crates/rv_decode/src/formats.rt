@@ -5,6 +5,7 @@ ghost use Rattle.rv_decode.specs.Formats.{imm_bits, r_word, i_word, s_word, b_wo
 
 use pmsi_model::Reg;
 
+/// A word of the R format.
 pub fn r_type(funct7: u32, rs2: Reg, rs1: Reg, funct3: u32, rd: Reg, opcode: u32) -> u32
     requires funct7 { funct7 < 2 ^ 7 }
     requires funct3 { funct3 < 2 ^ 3 }
@@ -45,6 +46,7 @@ pub fn b_type(offset: i32, rs2: Reg, rs1: Reg, funct3: u32, opcode: u32) -> u32
     opcode | low << 7 | funct3 << 12 | number(rs1) << 15 | number(rs2) << 20 | high << 25
 }
 
+/// A word of the U format, by the 20 bits of its immediate.
 pub fn u_type(imm: u32, rd: Reg, opcode: u32) -> u32
     requires imm { imm < 2 ^ 20 }
     requires opcode { opcode < 2 ^ 7 }

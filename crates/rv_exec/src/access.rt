@@ -23,7 +23,7 @@ pub fn apply(access: Access, word: u32) -> Applied
 {
     match access.op {
         AccessOp::Load(op) => Applied {
-            rd_value: extended(op, read_lanes(&access, word)),
+            rd_value: extended(op, number_at(&access, word)),
             new_word: word,
         },
         AccessOp::Store(_) => Applied {
@@ -51,8 +51,8 @@ fn mask_of(access: &Access) -> u32
     u32::MAX >> (32 - 8 * access.op.width())
 }
 
-/// The number that the bytes of an access spell.
-fn read_lanes(access: &Access, word: u32) -> u32
+/// The number that the bytes of an access spell in the aligned word that holds its address, lowest byte first.
+pub fn number_at(access: &Access, word: u32) -> u32
     requires { access.now.address % width_of access.now.op ≡ 0 }
     ensures number { result ≡ number_of (covered access.now word) }
     ensures below { result < 256 ^ width_of access.now.op }

@@ -54,7 +54,8 @@ fn jump(rd: Reg, target: u32, regs: &mut Regs, pc: u32) -> Effect
 
 /// Jumps by the offset if the branch is taken, and links nothing.
 fn branch(taken: bool, offset: i32, pc: u32) -> Effect
-    ensures effect { (regs : List ℕ) → effect_with result regs ≡ (if taken then model_jump regs 0 pc (plus_signed pc offset) else model.Next regs (next_pc pc)) }
+    ensures effect { (regs : List ℕ) → effect_with result regs
+        ≡ (if taken then model_jump regs 0 pc (plus_signed pc offset) else model.Next regs (next_pc pc)) }
     ensures writes { (regs : List ℕ) → WritesOnlyOnNext result regs regs }
     ensures asks { (memory : ℕ) → AsksFor memory result }
 {

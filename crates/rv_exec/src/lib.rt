@@ -7,7 +7,7 @@ mod effect;
 mod operations;
 mod regs;
 
-pub use access::{Applied, apply};
+pub use access::{Applied, apply, number_at};
 pub use effect::{Effect, exec};
 pub use regs::Regs;
 

@@ -32,12 +32,23 @@ impl Regs {
         Regs { values }
     }
 
+    /// Equal registers. It takes no memory.
+    pub fn copy(&self) -> Regs
+        ensures { result ≡ self.now }
+    {
+        Regs {
+            values: self.values,
+        }
+    }
+
+    /// The values of x0 to x31, by their numbers.
     pub fn as_slice(&self) -> &[u32]
         ensures { result.now ≡ self.now }
     {
         self.values.as_slice()
     }
 
+    /// The value of a register; that of x0 is 0.
     pub fn get(&self, r: Reg) -> u32
         ensures { result ≡ reg_of self.now r }
     {

@@ -1,4 +1,6 @@
 pub mod Slots
 pub mod Opens
 pub mod Words
-pub mod Rows
+pub mod Keeps
+pub mod Sims
+pub mod StateNames

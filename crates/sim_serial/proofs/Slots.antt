@@ -6,7 +6,7 @@ use native.Mathlib.Decide.{ℕ_discrete}
 use Rattle.pmsi_model.specs.declared.job.Geometry.{Geometry}
 use Rattle.pmsi_model.specs.declared.Action.{Action}
 use Rattle.pmsi_model.specs.Job.{JobValue, IsJob}
-use Rattle.pmsi_model.specs.Slots.{plan_of, owner_of_slot}
+use Rattle.pmsi_model.specs.Slots.{SlotPlan, plan_of, owner_of_slot}
 use Rattle.pmsi_model.specs.Run.{record_at}
 use Rattle.pmsi_model.specs.Shared.{BusSide}
 use Rattle.pmsi_model.specs.Parts.{IsBusPart}
@@ -61,10 +61,7 @@ slot_more job slot count k more part = let now = part.in_slot.now in subst (λ (
 
 -- ---- the owner's action
 
-pub owner_is : (job : JobValue) (slot count at owner : ℕ) → count ≡ job.shape.cores → at ≡ slot → owner ≡ owner_of_slot (record { cores = count }) at → owner ≡ owner_of_slot (plan_of job) slot
-owner_is job slot count at owner cores now is = is ∙ ap (λ n. owner_of_slot (record { cores = n }) at) cores ∙ ap (owner_of_slot (plan_of job)) now
-
-owner_below : (job : JobValue) (slot owner : ℕ) → IsJob job → owner ≡ owner_of_slot (plan_of job) slot → owner < job.shape.cores
+pub owner_below : (job : JobValue) (slot owner : ℕ) → IsJob job → owner ≡ owner_of_slot (plan_of job) slot → owner < job.shape.cores
 owner_below job slot owner is by = subst (λ n. n < job.shape.cores) (sym by) (mod_below slot job.shape.cores is.shape.some_cores)
 
 pub can_act : (job : JobValue) (slot owner : ℕ) (cores : List State) (bus : BusSide) (other k : State) → ArePhased job slot cores → IsBusPart job slot bus → owner ≡ owner_of_slot (plan_of job) slot → k ≡ get_or cores owner other → CanAct k bus
@@ -144,6 +141,7 @@ all_noted job slot owner action count cores all p = record {
 
 -- ---- the slot
 
-pub owner_of_bus : (job : JobValue) (slot owner count at : ℕ) (cores : List State) (bus : BusSide) → AreWith job slot cores bus → count ≡ bus.memory.shape.cores → at ≡ bus.slot →
-    owner ≡ owner_of_slot (record { cores = count }) at → owner ≡ owner_of_slot (plan_of job) slot
-owner_of_bus job slot owner count at cores bus w all now is = owner_is job slot count at owner (all ∙ ap (λ g. g.cores) w.side.memory.shape) (now ∙ w.side.now) is
+pub owner_of_bus : (job : JobValue) (slot owner at : ℕ) (plan : SlotPlan) (cores : List State) (bus : BusSide) → AreWith job slot cores bus → plan ≡ bus.plan → at ≡ bus.slot →
+    owner ≡ owner_of_slot plan at → owner ≡ owner_of_slot (plan_of job) slot
+owner_of_bus job slot owner at plan cores bus w table now is =
+    is ∙ ap (λ p. owner_of_slot p at) (table ∙ w.side.plan) ∙ ap (owner_of_slot (plan_of job)) (now ∙ w.side.now)

@@ -14,8 +14,7 @@ use Rattle.pmsi_model.proofs.Owners.{owner_below, owner_mode}
 use Rattle.cache_array.specs.Cache.{held_of, words_of, word_place}
 use Rattle.core_unit.specs.declared.state.State.{State}
 use Rattle.core_unit.specs.Parts.{IsPart}
-use Rattle.core_unit.proofs.Copies.{place_of_word, place_below}
-use Rattle.core_unit.proofs.Words.{some_words, line_of_word}
+use Rattle.core_unit.proofs.Exports.{place_of_word, place_below, some_words, line_of_word}
 use Rattle.sim_serial.specs.Sims.{SimValue, IsSimOf}
 
 -- a word of memory by its address

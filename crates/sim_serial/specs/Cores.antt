@@ -1,5 +1,5 @@
 -- The cores of a run, by their number, at a boundary and within a slot.
-use Rattle.std.specs.Prelude.{◌≡◌, ◌≢◌, ℕ, ◌+◌, ◌<◌, ◌≤◌, List, length, slice_index_or}
+use Rattle.std.specs.Prelude.{◌≡◌, ◌≢◌, ℕ, ◌+◌, ◌<◌, ◌≤◌, List, Bool, length, slice_index_or}
 use Rattle.pmsi_model.specs.declared.Action.{Action}
 use Rattle.pmsi_model.specs.Job.{JobValue, IsJob}
 use Rattle.pmsi_model.specs.Slots.{plan_of, owner_of_slot}
@@ -41,6 +41,10 @@ pub record AreInNotes (job : JobValue) (slot owner : ℕ) (action : Action) (cou
 pub record AreWith (job : JobValue) (slot : ℕ) (cores : List State) (bus : BusSide) : Type 0 where
   pub parts : AreParts job slot cores
   pub side : IsBusPart job slot bus
+
+-- each core keeps its accesses, or none does
+abbrev pub CoresKeep : Bool → List State → Type 0
+CoresKeep keeps cores = (c : ℕ) (other : State) → c < length cores → (slice_index_or cores c other).keeps ≡ keeps
 
 -- ---- of some job
 

@@ -3,6 +3,7 @@
 
 mod cores;
 mod sim;
+mod states;
 #[cfg(test)]
 mod tests;
 

@@ -1,19 +1,20 @@
 //! The simulator of a whole machine on one thread.
-ghost use Rattle.std.specs.Prelude.{◌≡◌, ℕ, ◌+◌, ◌%◌, ◌<◌, ◌≤◌, ◌==◌, false, IfOk, length, slice_get};
+ghost use Rattle.std.specs.Prelude.{◌≡◌, ℕ, ◌+◌, ◌%◌, ◌<◌, ◌≤◌, ◌==◌, IfOk, length, slice_get, true};
 ghost use Rattle.std.specs.List.{filter};
 ghost use Rattle.pmsi_model.specs.declared.limits.TheConstants.{MAX_SLOTS};
-ghost use Rattle.pmsi_model.specs.Effect.{reg_of};
-ghost use Rattle.pmsi_model.specs.Geometry.{IsGeometry};
+ghost use Rattle.pmsi_model.specs.declared.Keep.{Keep};
+ghost use Rattle.pmsi_model.specs.Geometry.{CanKeep, IsGeometry};
 ghost use Rattle.pmsi_model.specs.Job.{JobValue};
 ghost use Rattle.pmsi_model.specs.Phase.{bytes_from};
 ghost use Rattle.pmsi_model.specs.Rows.{open_row_of, rows_of};
 ghost use Rattle.pmsi_model.specs.Run.{machine_at};
+ghost use Rattle.pmsi_model.specs.Parts.{IsBusPart};
 ghost use Rattle.pmsi_model.specs.Words.{number_of};
 
-use crate::cores::{open_cores, take_slot};
+use crate::cores::{copy_cores, take_slot};
 use bus_core::Bus;
-use core_unit::Core;
-use pmsi_model::{BusPort, Geometry, Job, Keep, Mode, NoMemory, OpenRow, Reg, Row, Status};
+use core_unit::{Core, open_cores};
+use pmsi_model::{BusPort, Geometry, Job, Keep, Mode, NoMemory, OpenRow, Row};
 use std::alloc::Global;
 use std::marker::Model;
 
@@ -35,17 +36,41 @@ impl Model for Sim {
 }
 
 impl Sim {
-    ghost use Rattle.core_unit.specs.Parts.{IsPart};
-    ghost use Rattle.sim_serial.specs.Sims.{IsSim, IsSimOf, shape_of, slot_of};
+    ghost use Rattle.core_unit.specs.Parts.{IsPart, own_touches};
+    ghost use Rattle.core_unit.specs.State.{core_of};
+    ghost use Rattle.sim_serial.specs.Cores.{AreWith};
+    ghost use Rattle.sim_serial.specs.Sims.{CanJoin, IsSim, IsSimOf, Keeps, shape_of, sim_with, slot_of};
 
-    /// The machine of a job before its first slot. Room for the rows is taken here; actions and accesses aren't kept yet.
+    /// The machine of a job before its first slot. All room is taken here, also for the actions and the accesses that are
+    /// to be kept; no later call but `copy` takes memory.
     pub fn open(alloc: Global, job: &Job, keep: Keep) -> Result<Sim, NoMemory>
-        requires nothing_kept { (keep.trace ≡ false) × (keep.touches ≡ false) }
-        ensures { IfOk result (λ sim. IsSimOf job.now 0 sim) }
+        requires { CanKeep keep job.now.shape }
+        ensures part { IfOk result (λ sim. IsSimOf job.now 0 sim) }
+        ensures keeps { IfOk result (λ sim. Keeps keep sim) }
     {
         Ok(Sim {
-            cores: open_cores(alloc, job)?,
+            cores: open_cores(alloc, job, keep)?,
             bus: Bus::open(alloc, job, keep)?,
+        })
+    }
+
+    /// The machine of these cores and this bus. It takes no memory.
+    pub fn from_parts(cores: Vec<Core>, bus: Bus) -> Sim
+        requires { CanJoin cores.items bus }
+        ensures value { result ≡ sim_with cores.items bus }
+        ensures of_job { (job : JobValue) (slot : ℕ) → AreWith job slot cores.items bus → IsSimOf job slot result }
+        ensures keeps { (keep : Keep) → Keeps keep (sim_with cores.items bus) → Keeps keep result }
+    {
+        Sim { cores, bus }
+    }
+
+    /// An equal machine, with the same room taken.
+    pub fn copy(&self, alloc: Global) -> Result<Sim, NoMemory>
+        ensures { IfOk result (λ sim. sim ≡ self.now) }
+    {
+        Ok(Sim {
+            cores: copy_cores(alloc, self.cores.as_slice())?,
+            bus: self.bus.copy(alloc)?,
         })
     }
 
@@ -55,13 +80,17 @@ impl Sim {
         ensures machine { (job : JobValue) (slot : ℕ) → IsSimOf job slot self.old → IsSimOf job (slot + 1) self.new }
         ensures slot { slot_of self.new ≡ slot_of self.old + 1 }
         ensures shape { shape_of self.new ≡ shape_of self.old }
+        ensures keeps { (keep : Keep) → Keeps keep self.old → Keeps keep self.new }
     {
         take_slot(&mut self.cores, &mut self.bus);
     }
 
     /// The slots that are left. It takes no memory.
     pub fn run(&mut self)
-        ensures { (job : JobValue) (slot : ℕ) → IsSimOf job slot self.old → IsSimOf job job.shape.slots self.new }
+        ensures machine { (job : JobValue) (slot : ℕ) → IsSimOf job slot self.old → IsSimOf job job.shape.slots self.new }
+        ensures slot { slot_of self.new ≡ (shape_of self.new).slots }
+        ensures shape { shape_of self.new ≡ shape_of self.old }
+        ensures keeps { (keep : Keep) → Keeps keep self.old → Keeps keep self.new }
     {
         for _slot in self.slot()..self.shape().slots {
             self.step();
@@ -71,6 +100,7 @@ impl Sim {
     /// The slots that were taken.
     pub fn slot(&self) -> u32
         ensures value { result ≡ slot_of self.now }
+        ensures within { result ≤ (shape_of self.now).slots }
         ensures machine { (job : JobValue) (slot : ℕ) → IsSimOf job slot self.now → result ≡ slot }
     {
         self.bus.slot()
@@ -84,12 +114,29 @@ impl Sim {
         self.bus.memory().shape()
     }
 
-    fn core(&self, c: u32) -> &Core
+    /// A core, with its cache and its side of the bus.
+    pub fn core(&self, c: u32) -> &Core
         requires { c < (shape_of self.now).cores }
         ensures part { (job : JobValue) (slot : ℕ) → IsSimOf job slot self.now → IsPart job slot c result.now }
+        ensures machine { (job : JobValue) (slot : ℕ) → IsSimOf job slot self.now → core_of result.now ≡ (machine_at job slot).cores c }
+        ensures rows { (job : JobValue) (slot : ℕ) → IsSimOf job slot self.now → result.now.rows.items ≡ filter (λ row. row.core == c) (rows_of job slot) }
+        ensures few { length result.now.rows.items ≤ MAX_SLOTS }
+        ensures touches { (job : JobValue) (slot : ℕ) → IsSimOf job slot self.now → result.now.keeps ≡ true →
+            result.now.touches.items ≡ own_touches job slot c }
+        ensures keeps { (keep : Keep) → Keeps keep self.now → result.now.keeps ≡ keep.touches }
         ensures sim { IsSim self.now }
     {
         &self.cores[c as usize]
+    }
+
+    /// The bus, with shared memory.
+    pub fn bus(&self) -> &Bus
+        ensures value { result.now ≡ self.now.bus }
+        ensures part { (job : JobValue) (slot : ℕ) → IsSimOf job slot self.now → IsBusPart job slot result.now }
+        ensures keeps { (keep : Keep) → Keeps keep self.now → result.now.keeps ≡ keep.trace }
+        ensures sim { IsSim self.now }
+    {
+        &self.bus
     }
 
     /// The word at an address of the flat memory: the copy of the line's owner where there is one, else that of shared
@@ -114,20 +161,10 @@ impl Sim {
         self.core(c).cache().held(place)
     }
 
-    /// How many lines a core holds.
-    pub fn held_count(&self, c: u32) -> u32
-        requires { c < (shape_of self.now).cores }
-        ensures { (job : JobValue) (slot : ℕ) → IsSimOf job slot self.now → result ≡ length ((machine_at job slot).cores c).held }
-    {
-        self.core(c).cache().held_count()
-    }
-
-    /// The requests of a core that were served, by the slot of their fill: at most one a slot. With one core these are all
-    /// that were served.
+    /// The requests of a core that were served, by the slot of their fill: at most one a slot.
     pub fn rows(&self, c: u32) -> &[Row]
         requires { c < (shape_of self.now).cores }
         ensures own { (job : JobValue) (slot : ℕ) → IsSimOf job slot self.now → result.now ≡ filter (λ row. row.core == c) (rows_of job slot) }
-        ensures all { (job : JobValue) (slot : ℕ) → IsSimOf job slot self.now → (shape_of self.now).cores ≡ 1 → result.now ≡ rows_of job slot }
         ensures few { length result.now ≤ MAX_SLOTS }
     {
         self.core(c).rows()
@@ -146,42 +183,5 @@ impl Sim {
             issue: want.issue,
             post: want.post,
         })
-    }
-
-    pub fn reg(&self, c: u32, r: Reg) -> u32
-        requires { c < (shape_of self.now).cores }
-        ensures { (job : JobValue) (slot : ℕ) → IsSimOf job slot self.now → result ≡ reg_of ((machine_at job slot).cores c).regs r }
-    {
-        self.core(c).reg(r)
-    }
-
-    /// The 32 registers of a core.
-    pub fn regs(&self, c: u32) -> &[u32]
-        requires { c < (shape_of self.now).cores }
-        ensures { (job : JobValue) (slot : ℕ) → IsSimOf job slot self.now → result.now ≡ ((machine_at job slot).cores c).regs }
-    {
-        self.core(c).regs()
-    }
-
-    pub fn pc(&self, c: u32) -> u32
-        requires { c < (shape_of self.now).cores }
-        ensures { (job : JobValue) (slot : ℕ) → IsSimOf job slot self.now → result ≡ ((machine_at job slot).cores c).pc }
-    {
-        self.core(c).pc()
-    }
-
-    pub fn status(&self, c: u32) -> Status
-        requires { c < (shape_of self.now).cores }
-        ensures { (job : JobValue) (slot : ℕ) → IsSimOf job slot self.now → result ≡ ((machine_at job slot).cores c).status }
-    {
-        self.core(c).status()
-    }
-
-    /// The instructions that a core has retired.
-    pub fn retired(&self, c: u32) -> u64
-        requires { c < (shape_of self.now).cores }
-        ensures { (job : JobValue) (slot : ℕ) → IsSimOf job slot self.now → result ≡ ((machine_at job slot).cores c).retired }
-    {
-        self.core(c).retired()
     }
 }

@@ -1,2 +1,3 @@
-mod Distances
-pub mod NextOwn
+mod NextOwn
+mod Counts
+pub mod Exports

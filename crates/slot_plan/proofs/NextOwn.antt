@@ -5,7 +5,7 @@ use mathlib.Core.Logic.{dite}
 use native.Mathlib.Decide.{ℕ_discrete}
 use Rattle.pmsi_model.specs.Slots.{SlotPlan, owner_of_slot, distance}
 use Rattle.slot_plan.specs.Plans.{IsNextOwn, DistanceToNextOwn}
-use Rattle.slot_plan.proofs.Distances.{distance_some, distance_within, distance_own, distance_falls}
+use Rattle.pmsi_model.proofs.Distances.{distance_some, distance_within, distance_own, distance_falls}
 
 -- the owner is some core
 owner_below : (plan : SlotPlan) (c slot : ℕ) → c < plan.cores → owner_of_slot plan slot < plan.cores

@@ -1,49 +1,72 @@
-//! Whose slot it is, by time division: the cores of a bus own its slots in turn. Slots count from 0.
+//! Whose slot it is, by time division: a table gives the owners of a bus's slots. Slots count from 0.
 #![tactic(auto)]
 
 ghost use Rattle.std.specs.Prelude.{◌≡◌, ◌<◌, ◌≤◌};
-ghost use Rattle.pmsi_model.specs.declared.limits.TheConstants.{MAX_CORES, MAX_SLOTS};
-ghost use Rattle.pmsi_model.specs.Slots.{owner_of_slot, distance as distance_to_own};
+ghost use Rattle.pmsi_model.specs.declared.limits.TheConstants.{MAX_SLOTS};
+ghost use Rattle.pmsi_model.specs.Slots.{IsSlotPlan, distance as distance_to_own, gap_of, own_slots, owner_of_slot};
 ghost use Rattle.slot_plan.specs.Plans.{IsNextOwn};
 
 pub mod laws;
 
+use pmsi_model::SlotTable;
+
 /// The core that owns a slot.
-pub fn owner(slot: u32, cores: u32) -> u32
-    requires some { 1 ≤ cores }
-    requires few { cores ≤ MAX_CORES }
-    requires slot { slot ≤ MAX_SLOTS }
-    ensures owner { result ≡ owner_of_slot (record { cores = cores }) slot }
-    ensures below { result < cores }
+pub fn owner(table: &SlotTable, slot: u32) -> u32
+    requires { slot ≤ MAX_SLOTS }
+    ensures owner { result ≡ owner_of_slot table.now slot }
+    ensures below { result < table.now.cores }
 {
-    slot % cores
+    slot % table.cores()
+}
+
+/// The greatest number of slots from an own slot of a core to its next own one.
+pub fn gap(table: &SlotTable) -> u32
+    ensures gap { result ≡ gap_of table.now }
+    ensures some { 1 ≤ result }
+{
+    table.cores()
 }
 
 /// The first own slot of a core from this slot on.
-pub fn next_own(core: u32, slot: u32, cores: u32) -> u32
-    requires few { cores ≤ MAX_CORES }
-    requires core { core < cores }
+pub fn next_own(table: &SlotTable, core: u32, slot: u32) -> u32
+    requires core { core < table.now.cores }
     requires slot { slot ≤ MAX_SLOTS }
-    ensures { IsNextOwn (record { cores = cores }) core slot result }
+    ensures { IsNextOwn table.now core slot result }
 {
-    slot + (distance(core, slot, cores) - 1)
+    slot + (distance(table, core, slot) - 1)
 }
 
 /// How many slots there are from this one up to and including the core's next own one.
-pub fn distance(core: u32, slot: u32, cores: u32) -> u32
-    requires few { cores ≤ MAX_CORES }
-    requires core { core < cores }
+pub fn distance(table: &SlotTable, core: u32, slot: u32) -> u32
+    requires core { core < table.now.cores }
     requires slot { slot ≤ MAX_SLOTS }
-    ensures distance { result ≡ distance_to_own (record { cores = cores }) core slot }
+    ensures distance { result ≡ distance_to_own table.now core slot }
     ensures some { 1 ≤ result }
-    ensures within { result ≤ cores }
+    ensures within { result ≤ gap_of table.now }
+    ensures plan { IsSlotPlan table.now }
 {
-    let owner = owner(slot, cores);
+    let cores = table.cores();
+    let owner = owner(table, slot);
     if owner <= core {
         core - owner + 1
     } else {
         core + cores - owner + 1
     }
+}
+
+/// How many of the first slots are a core's own.
+pub fn count_own(table: &SlotTable, core: u32, slots: u32) -> u32
+    requires core { core < table.now.cores }
+    requires slots { slots ≤ MAX_SLOTS }
+    ensures { result ≡ own_slots table.now core slots }
+{
+    let mut count = 0;
+    let mut slot = next_own(table, core, 0);
+    while slot < slots {
+        count += 1;
+        slot = next_own(table, core, slot + 1);
+    }
+    count
 }
 
 #[cfg(test)]

@@ -8,19 +8,17 @@ use Rattle.pmsi_model.specs.declared.Action.TheVariants.{Idle, Post, Fill, PostF
 use Rattle.pmsi_model.specs.declared.Kind.{Kind}
 use Rattle.pmsi_model.specs.declared.Want.{Want}
 use Rattle.pmsi_model.specs.Job.{JobValue}
-use Rattle.pmsi_model.specs.Slots.{plan_of, owner_of_slot}
+use Rattle.pmsi_model.specs.Run.{slot_owner}
 use Rattle.pmsi_model.specs.Machine.{Machine, CoreState, mode_in}
 use Rattle.pmsi_model.specs.Bus.{is_served, can_request_for, requests_now, name_of, kind_of_name, post, post_at, fill, fill_for, write_back, clear_victim, keeps_line, post_action, request_action, back_action, action_of, after_action}
 use Rattle.pmsi_model.proofs.Cases.{by_test}
 use Rattle.pmsi_model.proofs.Changes.{post-own, post-other, noted-want, fill-own, fill-other, write_back-own, write_back-other}
-use Rattle.coherence_laws.proofs.Whole.{IsWhole}
-use Rattle.coherence_laws.proofs.Acts.{back_whole}
-use Rattle.coherence_laws.proofs.Slots.{kind_named, unposted_now}
+use Rattle.coherence_laws.proofs.Exports.{IsWhole, back_whole, kind_named, unposted_now}
 use Rattle.waiting_laws.proofs.Requests.{FallsTo, post_falls, fill_falls, post_fill_falls}
 use Rattle.waiting_laws.proofs.Backs.{idle_falls, back_falls}
 
 post_action_falls : (job : JobValue) (x : Machine) (w : ℕ) (v : Want) (c : ℕ) (want : Want) → IsWhole job.shape (x.slot + 1) x.posted x.cores
-    → owner_of_slot (plan_of job) x.slot ≡ w → w < job.shape.cores → requests_now job x w ≡ true → (x.cores w).want ≡ Some v → v.post ≡ None → v.victim ≡ None
+    → slot_owner job x ≡ w → w < job.shape.cores → requests_now job x w ≡ true → (x.cores w).want ≡ Some v → v.post ≡ None → v.victim ≡ None
     → c < job.shape.cores → (x.cores c).want ≡ Some want → FallsTo job x c want (after_action x w (post_action job x w v))
 unfolding after_action
 post_action_falls job x w v c want whole owner w_below now is unposted free below wants =
@@ -33,7 +31,7 @@ post_action_falls job x w v c want whole owner w_below now is unposted free belo
     (post_falls job x w v c want whole owner w_below now is unposted free below wants))
 
 request_action_falls : (job : JobValue) (x : Machine) (w : ℕ) (o : Option Want) (c : ℕ) (want : Want) → IsWhole job.shape (x.slot + 1) x.posted x.cores
-    → owner_of_slot (plan_of job) x.slot ≡ w → w < job.shape.cores → requests_now job x w ≡ true → (x.cores w).want ≡ o
+    → slot_owner job x ≡ w → w < job.shape.cores → requests_now job x w ≡ true → (x.cores w).want ≡ o
     → can_request_for job x w o ≡ true
     → c < job.shape.cores → (x.cores c).want ≡ Some want → FallsTo job x c want (after_action x w (request_action job x w o))
 unfolding after_action
@@ -44,7 +42,7 @@ request_action_falls job x w (Some v) c want whole owner w_below now is can belo
     (λ waits. post_action_falls job x w v c want whole owner w_below now is (grind arith) (unposted_now job x w v is waits now) below wants)
 
 back_action_falls : (job : JobValue) (x : Machine) (w : ℕ) (lines : List ℕ) (c : ℕ) (want : Want) → IsWhole job.shape (x.slot + 1) x.posted x.cores
-    → owner_of_slot (plan_of job) x.slot ≡ w → w < job.shape.cores → requests_now job x w ≡ false → (x.cores w).write_backs ≡ lines
+    → slot_owner job x ≡ w → w < job.shape.cores → requests_now job x w ≡ false → (x.cores w).write_backs ≡ lines
     → c < job.shape.cores → (x.cores c).want ≡ Some want → FallsTo job x c want (after_action x w (back_action x w lines))
 unfolding after_action
 back_action_falls job x w [] c want whole owner w_below later is below wants = idle_falls job x w c want whole owner later is below wants
@@ -52,7 +50,7 @@ back_action_falls job x w (line ∷ lines) c want whole owner w_below later is b
     back_falls job x w line lines (keeps_line x w line) c want whole (back_whole job.shape (x.slot + 1) x w line lines whole w_below is) owner w_below later is below wants
 
 pub action_falls : (job : JobValue) (x : Machine) (w c : ℕ) (want : Want) → IsWhole job.shape (x.slot + 1) x.posted x.cores
-    → owner_of_slot (plan_of job) x.slot ≡ w → w < job.shape.cores → c < job.shape.cores → (x.cores c).want ≡ Some want
+    → slot_owner job x ≡ w → w < job.shape.cores → c < job.shape.cores → (x.cores c).want ≡ Some want
     → FallsTo job x c want (after_action x w (action_of job x w))
 unfolding action_of
 action_falls job x w c want whole owner w_below below wants =

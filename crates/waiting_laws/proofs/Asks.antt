@@ -10,7 +10,8 @@ use Rattle.pmsi_model.specs.declared.Turn.{Turn}
 use Rattle.pmsi_model.specs.declared.Turn.TheVariants.{Request as RequestTurn, WriteBack as WriteBackTurn}
 use Rattle.pmsi_model.specs.declared.Want.{Want}
 use Rattle.pmsi_model.specs.Job.{JobValue}
-use Rattle.pmsi_model.specs.Slots.{plan_of, owner_of_slot}
+use Rattle.pmsi_model.specs.Slots.{plan_of}
+use Rattle.pmsi_model.specs.Run.{slot_owner}
 use Rattle.pmsi_model.specs.Machine.{Machine, CoreState, Request, mode_of, mode_in, is_modified, has_line, append_once, first_of, ahead, request_of, removed, has_request, has_write}
 use Rattle.pmsi_model.specs.Bus.{post, noted_post, fill, fill_for, append_demanded, filled_line, can_write_back, is_request_turn, requests_now}
 use Rattle.pmsi_model.specs.Waiting.{place_of, left_for}
@@ -19,7 +20,7 @@ use Rattle.pmsi_model.proofs.Changes.{posted_core, filled_core, noted-turn, note
 use Rattle.pmsi_model.proofs.Held.{mode_to_front}
 use Rattle.pmsi_model.proofs.WriteBacks.{line_append_once, line_kept, place_append_once, place_kept}
 use Rattle.pmsi_model.proofs.Requests.{request_more, request_less, first_more, first_less, first_request, ahead_more, ahead_else}
-use Rattle.coherence_laws.proofs.Whole.{IsWhole}
+use Rattle.coherence_laws.proofs.Exports.{IsWhole}
 use Rattle.waiting_laws.proofs.Steps.{BackFalls, back_far, back_turn, request_far, request_for, request_here}
 use Rattle.waiting_laws.proofs.Stays.{posted_on, unposted_on}
 
@@ -153,7 +154,7 @@ asks_in_turn job x w l now has = turn_is (x.cores w).turn (let can = can_back l 
 abbrev pub at_next : Machine → Machine → Machine
 at_next x y = record y { slot = x.slot + 1 }
 
-back_on : (job : JobValue) (x y : Machine) (w o line : ℕ) (filled : Option ℕ) → IsRequest x y w filled → owner_of_slot (plan_of job) x.slot ≡ w
+back_on : (job : JobValue) (x y : Machine) (w o line : ℕ) (filled : Option ℕ) → IsRequest x y w filled → slot_owner job x ≡ w
     → requests_now job x w ≡ true → o < job.shape.cores → has_line line (x.cores o).write_backs ≡ true
     → BackFalls (plan_of job) x (at_next x y) o line
 back_on job x y w o line filled r owner now below has = dite (ℕ_discrete o w)
@@ -163,7 +164,7 @@ back_on job x y w o line filled r owner now below has = dite (ℕ_discrete o w)
     (λ other. back_far (plan_of job) x (at_next x y) o line refl below (λ mine. other (sym mine ∙ owner)) (r.turns o other) (r.places o line has).1)
 
 pub asked_posted : (job : JobValue) (x y : Machine) (w c : ℕ) (want : Want) (filled : Option ℕ) → IsWhole job.shape (x.slot + 1) x.posted x.cores
-    → IsWhole job.shape (x.slot + 1) y.posted y.cores → IsRequest x y w filled → owner_of_slot (plan_of job) x.slot ≡ w
+    → IsWhole job.shape (x.slot + 1) y.posted y.cores → IsRequest x y w filled → slot_owner job x ≡ w
     → requests_now job x w ≡ true → c ≢ w → (x.cores c).want ≡ Some want → is_some want.post ≡ true → filled ≢ Some want.line
     → left_for (plan_of job) (at_next x y) c want + 1 ≤ left_for (plan_of job) x c want
 asked_posted job x y w c want filled whole v r owner now other is posted apart =
@@ -176,7 +177,7 @@ asked_posted job x y w c want filled whole v r owner now other is posted apart =
     })
 
 pub asked_unposted : (job : JobValue) (x y : Machine) (w c : ℕ) (want : Want) (filled : Option ℕ) → IsWhole job.shape (x.slot + 1) x.posted x.cores
-    → IsRequest x y w filled → owner_of_slot (plan_of job) x.slot ≡ w
+    → IsRequest x y w filled → slot_owner job x ≡ w
     → requests_now job x w ≡ true → c ≢ w → c < job.shape.cores → (x.cores c).want ≡ Some want → is_some want.post ≡ false
     → left_for (plan_of job) (at_next x y) c want + 1 ≤ left_for (plan_of job) x c want
 asked_unposted job x y w c want filled whole r owner now other below is unposted =

@@ -9,7 +9,8 @@ use Rattle.pmsi_model.specs.declared.Turn.{Turn}
 use Rattle.pmsi_model.specs.declared.Turn.TheVariants.{Request as RequestTurn, WriteBack as WriteBackTurn}
 use Rattle.pmsi_model.specs.declared.Want.{Want}
 use Rattle.pmsi_model.specs.Job.{JobValue}
-use Rattle.pmsi_model.specs.Slots.{SlotPlan, plan_of, owner_of_slot}
+use Rattle.pmsi_model.specs.Slots.{SlotPlan, plan_of}
+use Rattle.pmsi_model.specs.Run.{slot_owner}
 use Rattle.pmsi_model.specs.Machine.{Machine, CoreState, Request, mode_of, mode_in, without, with_mode, has_line, first_of, ahead, request_of, nobody_owns}
 use Rattle.pmsi_model.specs.Bus.{is_core, can_request, can_request_for, requests_now, can_write_back, is_request_turn, write_back, clear_victim}
 use Rattle.pmsi_model.specs.Waiting.{place_of, back_slots, request_slots, queue_slots, posted_left, unposted_left, left_for}
@@ -18,8 +19,8 @@ use Rattle.pmsi_model.proofs.Cases.{by_test, by_bool}
 use Rattle.pmsi_model.proofs.Changes.{written_core, write_back-own, write_back-other, write_back-posted}
 use Rattle.pmsi_model.proofs.Held.{mode_without, mode_with_mode}
 use Rattle.pmsi_model.proofs.Requests.{first_request}
-use Rattle.coherence_laws.proofs.Whole.{IsWhole}
-use Rattle.waiting_laws.proofs.Distances.{distance_some}
+use Rattle.coherence_laws.proofs.Exports.{IsWhole}
+use Rattle.pmsi_model.proofs.Distances.{distance_some}
 use Rattle.waiting_laws.proofs.Steps.{BackFalls, RequestFalls, back_far, back_place, request_far, request_turn, request_slots_most, request_for, request_here, first_is, poster_below}
 use Rattle.waiting_laws.proofs.Stays.{posted_on, unposted_on, left_posted, left_unposted, owner_here, nobody_here}
 use Rattle.waiting_laws.proofs.Asks.{at_next}
@@ -85,7 +86,7 @@ idle_cannot : (job : JobValue) (x : Machine) (w : ℕ) → requests_now job x w 
 idle_cannot job x w later empty =
     let nothing : can_write_back (x.cores w).write_backs ≡ false = ap can_write_back empty in grind arith
 
-idle_unserved : (job : JobValue) (x : Machine) (w : ℕ) → owner_of_slot (plan_of job) x.slot ≡ w → requests_now job x w ≡ false
+idle_unserved : (job : JobValue) (x : Machine) (w : ℕ) → slot_owner job x ≡ w → requests_now job x w ≡ false
     → (x.cores w).write_backs ≡ [] → IsUnserved job x (at_next x x) w None
 idle_unserved job x w owner later empty = record {
   back = λ o line below has _. back_far (plan_of job) x (at_next x x) o line refl below
@@ -100,7 +101,7 @@ idle_unserved job x w owner later empty = record {
 }
 
 pub idle_falls : (job : JobValue) (x : Machine) (w c : ℕ) (want : Want) → IsWhole job.shape (x.slot + 1) x.posted x.cores
-    → owner_of_slot (plan_of job) x.slot ≡ w → requests_now job x w ≡ false → (x.cores w).write_backs ≡ []
+    → slot_owner job x ≡ w → requests_now job x w ≡ false → (x.cores w).write_backs ≡ []
     → c < job.shape.cores → (x.cores c).want ≡ Some want → FallsTo job x c want x
 idle_falls job x w c want whole owner later empty below wants =
     let u : IsUnserved job x (at_next x x) w None = idle_unserved job x w owner later empty in
@@ -140,7 +141,7 @@ place_next l line lines before after is then_is apart =
     let first : place_of l (line ∷ lines) ≡ place_of l lines + 1 = grind arith in
     ap (place_of l) is ∙ first ∙ ap (λ (ls : List ℕ). place_of l ls + 1) (sym same)
 
-back_unserved : (job : JobValue) (x : Machine) (w line : ℕ) (lines : List ℕ) (kept : Bool) → owner_of_slot (plan_of job) x.slot ≡ w
+back_unserved : (job : JobValue) (x : Machine) (w line : ℕ) (lines : List ℕ) (kept : Bool) → slot_owner job x ≡ w
     → requests_now job x w ≡ false → (x.cores w).write_backs ≡ line ∷ lines → IsUnserved job x (at_next x (write_back x w line kept)) w (Some line)
 back_unserved job x w line lines kept owner later backs =
     let plan : SlotPlan = plan_of job in
@@ -236,7 +237,7 @@ cleared line want is = by_test (λ (v : Want). v ≡ record want { victim = None
 
 back_other_falls : (job : JobValue) (x : Machine) (w line : ℕ) (lines : List ℕ) (kept : Bool) (c : ℕ) (want : Want) → IsWhole job.shape (x.slot + 1) x.posted x.cores
     → IsWhole job.shape (x.slot + 1) (write_back x w line kept).posted (write_back x w line kept).cores
-    → owner_of_slot (plan_of job) x.slot ≡ w → w < job.shape.cores → requests_now job x w ≡ false → (x.cores w).write_backs ≡ line ∷ lines
+    → slot_owner job x ≡ w → w < job.shape.cores → requests_now job x w ≡ false → (x.cores w).write_backs ≡ line ∷ lines
     → c < job.shape.cores → (x.cores c).want ≡ Some want → (c ≡ w → want.victim ≢ Some line)
     → left_for (plan_of job) (at_next x (write_back x w line kept)) c want + 1 ≤ left_for (plan_of job) x c want
 back_other_falls job x w line lines kept c want whole after owner w_below later backs below wants apart =
@@ -251,7 +252,7 @@ back_other_falls job x w line lines kept c want whole after owner w_below later 
 
 pub back_falls : (job : JobValue) (x : Machine) (w line : ℕ) (lines : List ℕ) (kept : Bool) (c : ℕ) (want : Want) → IsWhole job.shape (x.slot + 1) x.posted x.cores
     → IsWhole job.shape (x.slot + 1) (write_back x w line kept).posted (write_back x w line kept).cores
-    → owner_of_slot (plan_of job) x.slot ≡ w → w < job.shape.cores → requests_now job x w ≡ false → (x.cores w).write_backs ≡ line ∷ lines
+    → slot_owner job x ≡ w → w < job.shape.cores → requests_now job x w ≡ false → (x.cores w).write_backs ≡ line ∷ lines
     → c < job.shape.cores → (x.cores c).want ≡ Some want → FallsTo job x c want (write_back x w line kept)
 back_falls job x w line lines kept c want whole after owner w_below later backs below wants =
     let y : Machine = write_back x w line kept in

@@ -1,4 +1,3 @@
-pub mod Distances
 pub mod Numbers
 pub mod Quiet
 pub mod Steps
@@ -10,3 +9,4 @@ pub mod Phases
 pub mod Actions
 pub mod Slots
 pub mod Rows
+pub mod Orders

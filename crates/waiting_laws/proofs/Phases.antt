@@ -11,8 +11,7 @@ use Rattle.pmsi_model.specs.Waiting.{place_of, back_delay, request_delay, back_s
 use Rattle.pmsi_model.proofs.Boundaries.{machine_at-slot, phases-slot, phases-posted}
 use Rattle.pmsi_model.proofs.Requests.{request_queued}
 use Rattle.pmsi_model.proofs.Owners.{owner_below, owner_mode, owner_none}
-use Rattle.coherence_laws.proofs.Whole.{IsWhole}
-use Rattle.coherence_laws.proofs.Slots.{nobody_at_all, whole_at, phases_at}
+use Rattle.coherence_laws.proofs.Exports.{IsWhole, nobody_at_all, whole_at, phases_at}
 use Rattle.waiting_laws.proofs.Quiet.{IsQuiet, quiet_phases}
 use Rattle.waiting_laws.proofs.Steps.{request_for, request_here}
 use Rattle.waiting_laws.proofs.Stays.{left_posted, left_unposted, owner_here, nobody_here}

@@ -5,7 +5,8 @@ use native.Mathlib.Decide.{ℕ_discrete}
 use Rattle.std.specs.Option.{option_map, unwrap_or}
 use Rattle.pmsi_model.specs.declared.Want.{Want}
 use Rattle.pmsi_model.specs.Job.{JobValue}
-use Rattle.pmsi_model.specs.Slots.{SlotPlan, plan_of, owner_of_slot}
+use Rattle.pmsi_model.specs.Slots.{SlotPlan, plan_of}
+use Rattle.pmsi_model.specs.Run.{slot_owner}
 use Rattle.pmsi_model.specs.Machine.{Machine, CoreState, first_of, ahead, request_of, removed, owner_of, nobody_owns}
 use Rattle.pmsi_model.specs.Bus.{post, post_at, fill, is_core, is_served, requests_now}
 use Rattle.pmsi_model.specs.Waiting.{request_slots, queue_slots, posted_left, unposted_left, left_for}
@@ -13,11 +14,8 @@ use Rattle.pmsi_model.proofs.Cases.{by_bool}
 use Rattle.pmsi_model.proofs.Changes.{post-own, post-other, noted-want, fill-own, fill-other, fill-posted}
 use Rattle.pmsi_model.proofs.Owners.{nobody_none}
 use Rattle.pmsi_model.proofs.Requests.{ahead_less}
-use Rattle.coherence_laws.proofs.Fine.{at_some}
-use Rattle.coherence_laws.proofs.Whole.{IsWhole}
-use Rattle.coherence_laws.proofs.Acts.{post_whole, fill_whole}
-use Rattle.coherence_laws.proofs.Slots.{nobody_at_all}
-use Rattle.waiting_laws.proofs.Distances.{distance_some}
+use Rattle.coherence_laws.proofs.Exports.{at_some, IsWhole, post_whole, fill_whole, nobody_at_all}
+use Rattle.pmsi_model.proofs.Distances.{distance_some}
 use Rattle.waiting_laws.proofs.Steps.{request_for, request_here, first_is, posted_most, posted_all}
 use Rattle.waiting_laws.proofs.Stays.{left_posted, left_unposted}
 use Rattle.waiting_laws.proofs.Asks.{IsRequest, request_then, post_asks, fill_asks, at_next, asked_posted, asked_unposted}
@@ -63,7 +61,7 @@ post_own_falls job x w v whole below is unposted free =
     falls_to job x y w v later later_is (refl, omega arith)
 
 pub post_falls : (job : JobValue) (x : Machine) (w : ℕ) (v : Want) (c : ℕ) (want : Want) → IsWhole job.shape (x.slot + 1) x.posted x.cores
-    → owner_of_slot (plan_of job) x.slot ≡ w → w < job.shape.cores → requests_now job x w ≡ true → (x.cores w).want ≡ Some v → v.post ≡ None → v.victim ≡ None
+    → slot_owner job x ≡ w → w < job.shape.cores → requests_now job x w ≡ true → (x.cores w).want ≡ Some v → v.post ≡ None → v.victim ≡ None
     → c < job.shape.cores → (x.cores c).want ≡ Some want → FallsTo job x c want (post x w v.kind v.line)
 post_falls job x w v c want whole owner w_below now is unposted free below wants =
     let y : Machine = post x w v.kind v.line in
@@ -106,7 +104,7 @@ served_falls job x y w c want whole after rest later first nobody other wants po
     omega arith
 
 pub fill_falls : (job : JobValue) (x : Machine) (w : ℕ) (v : Want) (c : ℕ) (want : Want) → IsWhole job.shape (x.slot + 1) x.posted x.cores
-    → owner_of_slot (plan_of job) x.slot ≡ w → w < job.shape.cores → requests_now job x w ≡ true → (x.cores w).want ≡ Some v → is_some v.post ≡ true
+    → slot_owner job x ≡ w → w < job.shape.cores → requests_now job x w ≡ true → (x.cores w).want ≡ Some v → is_some v.post ≡ true
     → is_served job x w v.line ≡ true → c < job.shape.cores → (x.cores c).want ≡ Some want → FallsTo job x c want (fill x w)
 fill_falls job x w v c want whole owner w_below now is posted served below wants =
     let y : Machine = fill x w in
@@ -131,7 +129,7 @@ fill_falls job x w v c want whole owner w_below now is posted served below wants
 -- ---- post and fill
 
 pub post_fill_falls : (job : JobValue) (x : Machine) (w : ℕ) (v : Want) (c : ℕ) (want : Want) → IsWhole job.shape (x.slot + 1) x.posted x.cores
-    → owner_of_slot (plan_of job) x.slot ≡ w → w < job.shape.cores → requests_now job x w ≡ true → (x.cores w).want ≡ Some v → v.post ≡ None → v.victim ≡ None
+    → slot_owner job x ≡ w → w < job.shape.cores → requests_now job x w ≡ true → (x.cores w).want ≡ Some v → v.post ≡ None → v.victim ≡ None
     → is_served job (post x w v.kind v.line) w v.line ≡ true → c < job.shape.cores → (x.cores c).want ≡ Some want
     → FallsTo job x c want (fill (post x w v.kind v.line) w)
 post_fill_falls job x w v c want whole owner w_below now is unposted free served below wants =

@@ -14,8 +14,8 @@ use Rattle.pmsi_model.specs.Run.{machine_at, record_at}
 use Rattle.pmsi_model.specs.Rows.{row_of, action_row, slot_rows, rows_of, wait_of, open_row_of, option_list, open_rows_in, age_of}
 use Rattle.pmsi_model.specs.Waiting.{posted_left, unposted_left, left_for}
 use Rattle.pmsi_model.proofs.Cases.{by_test}
-use Rattle.waiting_laws.specs.Laws.{RowsAreBounded}
-use Rattle.waiting_laws.proofs.Distances.{distance_some}
+use Rattle.waiting_laws.specs.Laws.{LeftIsSome, RowsAreBounded}
+use Rattle.pmsi_model.proofs.Distances.{distance_some}
 use Rattle.waiting_laws.proofs.Phases.{phased, phased-slot}
 use Rattle.waiting_laws.proofs.Slots.{IsBounded, owner_at, owner_at-below, phased_bounded, bounded_at}
 use Rattle.std.specs.Option.{unwrap_or}
@@ -35,6 +35,9 @@ pub left_some : (plan : SlotPlan) (x : Machine) (c : ℕ) (want : Want) → 1 �
 left_some plan x c want = by_test (λ n. 1 ≤ n) (is_some want.post) (posted_left plan x c want.line (owner_of x plan.cores want.line)) (unposted_left plan x c want.victim)
     (λ posted. posted_some plan x c want.line (owner_of x plan.cores want.line))
     (λ waits. unposted_some plan x c want.victim)
+
+pub left_is_some : LeftIsSome
+left_is_some job is slot c want below wants = left_some (plan_of job) (machine_at job slot) c want
 
 -- ---- completed requests
 

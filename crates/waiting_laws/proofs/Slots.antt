@@ -6,10 +6,10 @@ use Rattle.pmsi_model.specs.Job.{JobValue, IsJob}
 use Rattle.pmsi_model.specs.Slots.{plan_of, owner_of_slot, bound_of}
 use Rattle.pmsi_model.specs.Machine.{Machine}
 use Rattle.pmsi_model.specs.Bus.{action_of, after_action}
-use Rattle.pmsi_model.specs.Run.{start_of, slot_done, machine_at}
+use Rattle.pmsi_model.specs.Run.{start_of, slot_done, machine_at, slot_owner}
 use Rattle.pmsi_model.specs.Waiting.{left_for}
 use Rattle.pmsi_model.proofs.Boundaries.{next_machine}
-use Rattle.coherence_laws.proofs.Whole.{IsWhole}
+use Rattle.coherence_laws.proofs.Exports.{IsWhole}
 use Rattle.waiting_laws.specs.Laws.{LeftFalls, StartsBelowBound, AlwaysBounded}
 use Rattle.waiting_laws.proofs.Steps.{left_most}
 use Rattle.waiting_laws.proofs.Asks.{at_next}
@@ -20,9 +20,9 @@ use Rattle.waiting_laws.proofs.Actions.{action_falls, action_none}
 
 -- the owner of a slot
 abbrev pub owner_at : JobValue → ℕ → ℕ
-owner_at job slot = owner_of_slot (plan_of job) (machine_at job slot).slot
+owner_at job slot = slot_owner job (machine_at job slot)
 
-owner_at-phased : (job : JobValue) (slot : ℕ) → owner_of_slot (plan_of job) (phased job slot).slot ≡ owner_at job slot
+owner_at-phased : (job : JobValue) (slot : ℕ) → slot_owner job (phased job slot) ≡ owner_at job slot
 owner_at-phased job slot = ap (owner_of_slot (plan_of job)) ((phased_calm job slot).same_slot)
 
 pub owner_at-below : (job : JobValue) → IsJob job → (slot : ℕ) → owner_at job slot < job.shape.cores

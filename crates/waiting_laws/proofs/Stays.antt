@@ -8,16 +8,15 @@ use Rattle.pmsi_model.specs.Slots.{SlotPlan, plan_of}
 use Rattle.pmsi_model.specs.Machine.{Machine, mode_in, has_line, first_of, ahead, request_of, owner_of, nobody_owns}
 use Rattle.pmsi_model.specs.Waiting.{request_slots, queue_slots, posted_left, unposted_left, left_for}
 use Rattle.pmsi_model.proofs.Requests.{request_queued, first_request}
-use Rattle.pmsi_model.proofs.Owners.{owner_below, owner_mode, owner_none, owner_is, nobody_from, nobody_none}
-use Rattle.coherence_laws.proofs.Whole.{IsWhole}
-use Rattle.coherence_laws.proofs.Slots.{nobody_at_all}
+use Rattle.pmsi_model.proofs.Owners.{owner_below, owner_mode, owner_none, owner_alone, nobody_from, nobody_none}
+use Rattle.coherence_laws.proofs.Exports.{IsWhole, nobody_at_all}
 use Rattle.waiting_laws.proofs.Steps.{BackFalls, RequestFalls, request_for, request_here, first_is, poster_below}
 
 -- the owner of a line that a core owns
 pub owner_here : (job : JobValue) (slot : ℕ) (z : Machine) (o line : ℕ) → IsWhole job.shape slot z.posted z.cores → o < job.shape.cores
     → mode_in z o line ≡ Some Modified → owner_of z job.shape.cores line ≡ Some o
 owner_here job slot z o line w below owned =
-    owner_is z job.shape.cores line o below owned (λ d other twice. let none : mode_in z d line ≡ None = w.alone o d line owned other in grind arith)
+    owner_alone z job.shape.cores line o below owned (λ d within other twice. let none : mode_in z d line ≡ None = w.alone o d line owned other in grind arith)
 
 pub nobody_here : (job : JobValue) (z : Machine) (line : ℕ) → ((d : ℕ) → mode_in z d line ≢ Some Modified) → owner_of z job.shape.cores line ≡ None
 nobody_here job z line free = nobody_none z job.shape.cores line (nobody_from z job.shape.cores line (λ d below. free d))

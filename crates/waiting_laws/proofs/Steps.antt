@@ -17,9 +17,8 @@ use Rattle.pmsi_model.proofs.Cases.{by_test}
 use Rattle.pmsi_model.proofs.WriteBacks.{place_within}
 use Rattle.pmsi_model.proofs.Requests.{request_queued, first_some, first_request, ahead_within}
 use Rattle.pmsi_model.proofs.Owners.{owner_below, owner_mode}
-use Rattle.coherence_laws.proofs.Whole.{IsWhole}
-use Rattle.coherence_laws.proofs.Counts.{posted_within, backs_fit}
-use Rattle.waiting_laws.proofs.Distances.{distance_within, distance_own, distance_falls}
+use Rattle.coherence_laws.proofs.Exports.{IsWhole, posted_within, backs_fit}
+use Rattle.pmsi_model.proofs.Distances.{distance_within, distance_own, distance_falls}
 use Rattle.waiting_laws.proofs.Numbers.{turn_falls, place_falls, back_most, request_most, one_more, more_ahead, bound_steps}
 
 -- ---- falls

@@ -5,7 +5,7 @@ use Rattle.pmsi_model.specs.declared.Want.{Want}
 use Rattle.pmsi_model.specs.Job.{JobValue, IsJob}
 use Rattle.pmsi_model.specs.Slots.{plan_of, bound_of}
 use Rattle.pmsi_model.specs.Run.{machine_at}
-use Rattle.pmsi_model.specs.Rows.{rows_of, wait_of, open_rows_of, age_of}
+use Rattle.pmsi_model.specs.Rows.{rows_of, wait_of, open_rows_of, age_of, IsInOrder}
 use Rattle.pmsi_model.specs.Waiting.{left_for, WaitsAreBounded}
 
 -- what is left for a want that still stands after a slot has fallen by one at least
@@ -22,6 +22,12 @@ StartsBelowBound =
     ((machine_at job (slot + 1)).cores c).want ≡ Some want → want.issue ≡ slot →
     left_for (plan_of job) (machine_at job (slot + 1)) c want + 1 ≤ bound_of (plan_of job)
 
+-- something is left for every want
+abbrev pub LeftIsSome : Type 0
+LeftIsSome =
+    (job : JobValue) → IsJob job → (slot c : ℕ) (want : Want) → c < job.shape.cores → ((machine_at job slot).cores c).want ≡ Some want →
+    1 ≤ left_for (plan_of job) (machine_at job slot) c want
+
 -- every wait is within the bound
 abbrev pub AlwaysBounded : Type 0
 AlwaysBounded = (job : JobValue) → IsJob job → WaitsAreBounded job
@@ -32,3 +38,7 @@ RowsAreBounded =
     (job : JobValue) → IsJob job → (slot : ℕ) → slot ≤ job.shape.slots →
     All (λ row. wait_of row ≤ bound_of (plan_of job)) (rows_of job slot)
     × All (λ row. age_of slot row < bound_of (plan_of job)) (open_rows_of job slot)
+
+-- every completed row's request was issued, posted and filled in this order, and before the boundary
+abbrev pub RowsAreInOrder : Type 0
+RowsAreInOrder = (job : JobValue) → IsJob job → (slot : ℕ) → All (IsInOrder slot) (rows_of job slot)

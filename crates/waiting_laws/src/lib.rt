@@ -2,7 +2,7 @@
 //! laws of the definitions alone.
 #![tactic(auto)]
 
-ghost use Rattle.waiting_laws.specs.Laws.{LeftFalls, StartsBelowBound, AlwaysBounded, RowsAreBounded};
+ghost use Rattle.waiting_laws.specs.Laws.{LeftFalls, StartsBelowBound, LeftIsSome, AlwaysBounded, RowsAreBounded, RowsAreInOrder};
 
 /// What is left for a want that still stands after a slot has fallen by one at least.
 pub fn left_falls()
@@ -14,6 +14,11 @@ pub fn starts_below_bound()
     ensures { StartsBelowBound }
 {}
 
+/// At every boundary at least one slot is left for each want.
+pub fn left_is_some()
+    ensures { LeftIsSome }
+{}
+
 /// Every wait is within the bound.
 pub fn always_bounded()
     ensures { AlwaysBounded }
@@ -22,4 +27,9 @@ pub fn always_bounded()
 /// A completed request waited at most the bound, and every open one is younger.
 pub fn rows_are_bounded()
     ensures { RowsAreBounded }
+{}
+
+/// A completed request's row has issue, post and fill in this order, and the fill before the boundary.
+pub fn rows_are_in_order()
+    ensures { RowsAreInOrder }
 {}

@@ -1,13 +1,11 @@
 ghost use Rattle.std.specs.Prelude.{◌≤◌, length};
 
 use super::read_line;
-use crate::expr::{Expr, Imm, Part};
 use crate::fault::{AsmCause, AsmFault};
 use crate::item::{Instrs, Item, Width};
-use crate::names::Names;
-use crate::number::Number;
 use crate::place::Place;
 use crate::statement::{Line, Statement};
+use asm_operands::{Expr, Imm, Names, Number, Part};
 use pmsi_model::{ImmOp, Instr, Reg};
 use std::alloc::AllocGlobal;
 use std::process::Abort;
@@ -21,8 +19,8 @@ fn read<'a>(
 {
     let place = Place {
         in_data,
-        text: 0,
-        memory: 0,
+        text_at: 0,
+        data_at: 0,
     };
     read_line(rt.alloc(), 3, line, place, &Names::new(rt.alloc()))
 }

@@ -19,10 +19,11 @@ impl Model for Schedule {
 }
 
 impl Schedule {
-    ghost use Rattle.pmsi_outside.specs.Memory.{fails_next, after_call};
+    ghost use Rattle.pmsi_outside.specs.Memory.{new_schedule, fails_next, after_call};
 
+    /// No call has been made; those with these numbers are to fail.
     pub fn new(fails: Vec<u64>) -> Schedule
-        ensures { result ≡ record { fails = fails.items; calls = 0 } }
+        ensures { result ≡ new_schedule fails.items }
     {
         Schedule { fails, calls: 0 }
     }

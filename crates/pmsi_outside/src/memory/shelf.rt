@@ -14,6 +14,7 @@ struct OpenFile {
     read: usize,
 }
 
+/// Files by their names, and the one that is open, where one is.
 #[derive(Debug, Drop)]
 pub struct Shelf {
     list: Vec<(String, Vec<u8>)>,
@@ -43,6 +44,7 @@ fn place_of(list: &[(String, Vec<u8>)], name: &str) -> Option<usize>
 impl Shelf {
     ghost use Rattle.pmsi_outside.specs.Memory.{entries_of, contents_of, new_shelf, opened, failed, Gives};
 
+    /// No call has been made.
     pub fn new(list: Vec<(String, Vec<u8>)>) -> Shelf
         ensures { result ≡ new_shelf (entries_of list.items) }
     {

@@ -7,9 +7,6 @@ use sources::{
 
 mod sources;
 
-/// `addi x5, x0, 7` and `ecall`.
-const ADDS: &[u8] = b"PMSIIMG1\x02\0\0\0\0\0\0\0\x93\x02\x70\0\x73\0\0\0";
-
 /// Appends the lowest four bytes of a number, the lowest first.
 fn push_number(bytes: &mut Vec<u8>, number: u64) -> Result<(), AllocError> {
     bytes.extend_from_slice(&number.to_le_bytes()[..4])
@@ -17,7 +14,7 @@ fn push_number(bytes: &mut Vec<u8>, number: u64) -> Result<(), AllocError> {
 
 /// The bytes of an image of these words and pieces.
 fn image_of(alloc: Global, words: &[u32], pieces: &[Piece]) -> Result<Vec<u8>, AllocError> {
-    let mut bytes = image(alloc, &[])?;
+    let mut bytes = b"PMSIIMG1".to_vec(alloc)?;
     push_number(&mut bytes, words.len() as u64)?;
     push_number(&mut bytes, pieces.len() as u64)?;
     for word in words {
@@ -40,21 +37,15 @@ fn assembles(
     pieces: &[Piece],
 ) -> Result<(), AllocError> {
     let image = image_of(alloc, words, pieces)?;
-    let ran = run(alloc, source.as_bytes().to_vec(alloc)?, &["asm", "a.job"])?;
-    assert_eq!(rt; ran.status, ToolStatus::Done, "{source}");
-    assert_eq!(rt; ran.out.bytes(), image.as_slice(), "{source}");
-    assert!(rt; ran.err.bytes().is_empty());
+    let list = one(alloc, source.as_bytes().to_vec(alloc)?)?;
+    let ran = run(alloc, &["asm", "a.job"], list)?;
+    wrote(rt, source, &ran, &image);
     Ok(())
 }
 
 /// A source is refused, and exactly this is told of it.
 fn finds(rt: &impl Abort, alloc: Global, source: &str, detail: &str) -> Result<(), AllocError> {
-    let line = format!(in alloc; "refused: input: {detail}\n")?;
-    let ran = run(alloc, source.as_bytes().to_vec(alloc)?, &["asm", "a.job"])?;
-    assert_eq!(rt; ran.status, ToolStatus::Refused, "{source}");
-    assert!(rt; ran.out.bytes().is_empty());
-    assert_eq!(rt; ran.err.bytes(), line.as_bytes(), "{source}");
-    Ok(())
+    refuses(rt, alloc, "asm", source.as_bytes().to_vec(alloc)?, detail)
 }
 
 fn assembles_each(rt: &impl Abort, alloc: Global, rows: &[Text]) -> Result<(), AllocError> {
@@ -72,7 +63,7 @@ fn finds_each(rt: &impl Abort, alloc: Global, rows: &[Fault]) -> Result<(), Allo
 }
 
 /// A source of as many words as a text may have, and then this line.
-fn full(alloc: Global, line: &str) -> Result<String, AllocError> {
+pub(super) fn full(alloc: Global, line: &str) -> Result<String, AllocError> {
     let mut source = String::new(alloc);
     for _ in 0..16_384 {
         source.push_str("nop\n")?;
@@ -81,87 +72,43 @@ fn full(alloc: Global, line: &str) -> Result<String, AllocError> {
     Ok(source)
 }
 
-/// This is told of a line behind as many words as a text may have.
-fn finds_behind(
-    rt: &impl Abort,
-    alloc: Global,
-    line: &str,
-    detail: &str,
-) -> Result<(), AllocError> {
-    let detail = format!(in alloc; "line 16385: {detail}")?;
-    finds(rt, alloc, full(alloc, line)?.as_str(), detail.as_str())
-}
-
 #[test]
-fn assembles_and_disassembles(rt: HostRuntime) -> Result<(), Fail> {
+fn assembles_sources(rt: HostRuntime) -> Result<(), Fail> {
     let alloc = rt.alloc();
-    let text = b".text\naddi x5, x0, 7\necall\n";
-    let source = b"addi x5, x0, 7\necall\n".to_vec(alloc)?;
-    writes(&rt, alloc, "asm", source, ADDS)?;
-    writes(&rt, alloc, "image", ADDS.to_vec(alloc)?, ADDS)?;
-    writes(&rt, alloc, "dis", ADDS.to_vec(alloc)?, text)?;
-    writes(&rt, alloc, "asm", text.to_vec(alloc)?, ADDS)?;
-    Ok(())
-}
-
-#[test]
-fn assembles_text(rt: HostRuntime) -> Result<(), Fail> {
-    assembles_each(&rt, rt.alloc(), CONSTANTS)?;
-    assembles_each(&rt, rt.alloc(), JUMPS)?;
-    assembles_each(&rt, rt.alloc(), OPERATIONS)?;
-    assembles_each(&rt, rt.alloc(), ACCESSES)?;
-    assembles_each(&rt, rt.alloc(), LINES)?;
-    Ok(())
-}
-
-#[test]
-fn assembles_data(rt: HostRuntime) -> Result<(), Fail> {
+    assembles_each(&rt, alloc, CONSTANTS)?;
+    assembles_each(&rt, alloc, JUMPS)?;
+    assembles_each(&rt, alloc, OPERATIONS)?;
+    assembles_each(&rt, alloc, ACCESSES)?;
+    assembles_each(&rt, alloc, LINES)?;
     for (source, words, pieces) in DATA {
-        assembles(&rt, rt.alloc(), source, words, pieces)?;
+        assembles(&rt, alloc, source, words, pieces)?;
     }
     Ok(())
 }
 
+/// Lines behind as many words as a text may have: that it is too long comes behind what else is wrong with the line, but
+/// before the second round.
+const BEHIND: &[Fault] = &[
+    ("nop", "text long"),
+    ("nop $", "character 5"),
+    ("bad", "word 1"),
+    ("nop nop", "operand 5"),
+    (".word 1, 4294967296", "number 10"),
+    ("a: a: nop", "twice 4"),
+    ("j b", "text long"),
+    ("j 3", "text long"),
+];
+
 #[test]
 fn finds_faults(rt: HostRuntime) -> Result<(), Fail> {
-    finds_each(&rt, rt.alloc(), FORMS)?;
-    finds_each(&rt, rt.alloc(), VALUES)?;
-    finds_each(&rt, rt.alloc(), ORDER)?;
-    Ok(())
-}
-
-#[test]
-fn assembles_as_many_words_as_the_limit(rt: HostRuntime) -> Result<(), Fail> {
     let alloc = rt.alloc();
-    let bytes = full(alloc, "a:")?.into_bytes();
-    writes_the_most(&rt, alloc, "asm", bytes)?;
-    Ok(())
-}
-
-/// That a text is too long comes behind what else is wrong with its line, but before the second round.
-#[test]
-fn finds_long_texts(rt: HostRuntime) -> Result<(), Fail> {
-    let alloc = rt.alloc();
-    finds_behind(&rt, alloc, "nop", "text long")?;
-    finds_behind(&rt, alloc, "nop $", "character 5")?;
-    finds_behind(&rt, alloc, "bad", "word 1")?;
-    finds_behind(&rt, alloc, "nop nop", "operand 5")?;
-    finds_behind(&rt, alloc, ".word 1, 4294967296", "number 10")?;
-    finds_behind(&rt, alloc, "a: a: nop", "twice 4")?;
-    finds_behind(&rt, alloc, "j b", "text long")?;
-    finds_behind(&rt, alloc, "j 3", "text long")?;
-    Ok(())
-}
-
-#[test]
-fn refuses_files_that_are_no_text(rt: HostRuntime) -> Result<(), Fail> {
-    let alloc = rt.alloc();
-    let large = vec![in alloc; 0u8; 16_777_217]?;
-    refuses(&rt, alloc, "asm", large, "refused: input: large\n")?;
-    let byte = b"\xff".to_vec(alloc)?;
-    refuses(&rt, alloc, "asm", byte, "refused: input: not text\n")?;
-    let comment = b"bad\nnop # \xff".to_vec(alloc)?;
-    refuses(&rt, alloc, "asm", comment, "refused: input: not text\n")?;
+    finds_each(&rt, alloc, FORMS)?;
+    finds_each(&rt, alloc, VALUES)?;
+    finds_each(&rt, alloc, ORDER)?;
+    for (line, detail) in BEHIND {
+        let detail = format!(in alloc; "line 16385: {detail}")?;
+        finds(&rt, alloc, full(alloc, line)?.as_str(), detail.as_str())?;
+    }
     Ok(())
 }
 

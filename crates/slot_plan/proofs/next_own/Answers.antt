@@ -7,5 +7,5 @@ use Rattle.slot_plan.proofs.next_own.Goals as goal
 pub returns : goal.returns
 returns c =
     let some : 1 ≤ c.distance.result = c.distance.ensures.some in
-    let is : c.distance.result ≡ distance (record { cores = c.args.cores }) c.args.core c.args.slot = c.distance.ensures.distance in
-    next_at_distance (record { cores = c.args.cores }) c.args.core c.args.slot _ c.requires.core (omega arith)
+    let is : c.distance.result ≡ distance c.args.table.now c.args.core c.args.slot = c.distance.ensures.distance in
+    next_at_distance c.args.table.now c.args.core c.args.slot _ c.requires.core (omega arith)

@@ -1,5 +1,5 @@
 use Rattle.std.proofs.Common.{refl, arith}
-use Rattle.asm_parse.specs.Meanings.{lexeme}
+use Rattle.asm_operands.specs.Meanings.{lexeme}
 use Rattle.asm_link.proofs.NameLaws.{defines_one, refuses_one}
 use Rattle.asm_link.proofs.definitions.define.Goals as goal
 

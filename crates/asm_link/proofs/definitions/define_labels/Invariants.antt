@@ -1,6 +1,6 @@
 use Rattle.std.proofs.Common.{[]}
 use Rattle.std.specs.Prelude.{take}
-use Rattle.asm_parse.specs.Meanings.{lexemes}
+use Rattle.asm_operands.specs.Meanings.{lexemes}
 use Rattle.asm_link.specs.Defined.{Defines, labelled}
 use Rattle.asm_link.proofs.definitions.define_labels.Given as goal
 

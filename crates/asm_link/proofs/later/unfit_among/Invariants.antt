@@ -1,6 +1,6 @@
 use Rattle.std.proofs.Common.{◌≡◌, map, drop}
-use Rattle.asm_parse.specs.Meanings.{expr}
-use Rattle.asm_parse.specs.Operands.{expr_value}
+use Rattle.asm_operands.specs.Meanings.{expr}
+use Rattle.asm_operands.specs.Operands.{expr_value}
 use Rattle.asm_parse.specs.Items.{fits_in}
 use Rattle.asm_parse.specs.Assembly.{first_of, value_fault}
 use Rattle.asm_link.specs.Values.{held}

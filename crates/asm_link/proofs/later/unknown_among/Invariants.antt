@@ -1,5 +1,5 @@
 use Rattle.std.proofs.Common.{◌≡◌, map, drop}
-use Rattle.asm_parse.specs.Meanings.{expr}
+use Rattle.asm_operands.specs.Meanings.{expr}
 use Rattle.asm_parse.specs.Assembly.{first_of, unknown_in}
 use Rattle.asm_link.specs.Values.{held}
 use Rattle.asm_link.proofs.later.unknown_among.Given as goal

@@ -4,5 +4,5 @@ use Rattle.listing.proofs.memory.push_memory_line.Goals as goal
 
 pub returns : goal.returns
 returns c =
-    let P : List ℕ → Type 0 = λ x. OnOk c.push_text-2.result (c.push_text-2.new.out.items ≡ x) in
-    subst P (memory_parts _ c.args.address c.args.bytes.now _ _ _ c.in_ok-push_hex_field.ensures c.in_ok-push_text.ensures c.in_ok-push_hex_bytes.ensures) c.push_text-2.ensures
+    let P : List ℕ → Type 0 = λ x. OnOk c.push_newline.result (c.push_newline.new.out.items ≡ x) in
+    subst P (memory_parts _ c.args.address c.args.bytes.now _ _ _ c.in_ok-push_hex_field.ensures c.in_ok-push_text.ensures c.in_ok-push_hex_bytes.ensures) c.push_newline.ensures

@@ -1,9 +1,4 @@
-use Rattle.std.proofs.Common.{◌≡◌, ◌+◌, ◌==◌, ◌++◌, ℕ, List, [], ◌∷◌, refl, sym, ap, ◌∙◌, arith, add-one}
-use Rattle.std.specs.List.{filter}
-use Rattle.pmsi_model.specs.declared.Row.{Row}
-use Rattle.pmsi_model.specs.Lines.{waits_line, waits_of}
-use Rattle.pmsi_model.specs.Listing.{waits_texts}
-use Rattle.pmsi_model.specs.Rows.{rows_of, wait_of}
+use Rattle.pmsi_model.specs.Rows.{rows_of}
 use Rattle.listing.proofs.WaitLines.{waits_more}
 use Rattle.listing.proofs.sections.push_waits_lines.Goals as goal
 

@@ -1,10 +1,10 @@
 use Rattle.std.proofs.Common.{◌≡◌, ◌≢◌, ℕ, List, [], ◌++◌, refl, subst, arith}
 use Rattle.std.proofs.lemmas.Result.{err_from_is_err_and}
-use Rattle.asm_parse.specs.declared.lexeme.Lexeme as written
+use Rattle.asm_operands.specs.declared.lexeme.Lexeme as written
 use Rattle.asm_parse.specs.declared.fault.AsmFault.TheVariants.{NoMemory}
 use Rattle.asm_parse.specs.Assembly.{defined_by, equs_of, here}
 use Rattle.asm_parse.specs.Items.{statement_of}
-use Rattle.asm_parse.specs.Meanings.{lexemes}
+use Rattle.asm_operands.specs.Meanings.{lexemes}
 use Rattle.asm_link.specs.Defined.{Defines, RefusesTwice, labelled}
 use Rattle.asm_link.proofs.NameLaws.{refuses_more, refuses_first, labelled_named}
 use Rattle.asm_link.proofs.Laying.{adds, defines_all, refuses_reading, refuses_names, refuses_room}

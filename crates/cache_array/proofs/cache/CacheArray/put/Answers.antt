@@ -1,5 +1,6 @@
 -- The cache with a line that was put.
 use Rattle.std.proofs.Common.{◌≡◌, ◌≤◌, ap, arith}
+use Rattle.pmsi_model.specs.declared.limits.TheConstants.{MAX_LINE_WORDS}
 use Rattle.cache_array.specs.Cache.{CacheValue}
 use Rattle.cache_array.proofs.Lines.{held_of-put_first, words_of-put_first}
 use Rattle.cache_array.proofs.Keeps.{IsCache-put_first, room_to_put}
@@ -7,7 +8,7 @@ use Rattle.cache_array.proofs.cache.CacheArray.put.Goals as goal
 
 pub from_slice-requires : goal.from_slice-requires
 from_slice-requires c =
-    let most : c.self.inside.shape.line_words ≤ 16 = c.self.invariant.0.shape.greatest_line in
+    let most : c.self.inside.shape.line_words ≤ MAX_LINE_WORDS = c.self.invariant.0.shape.greatest_line in
     let same : c.self.inside.shape.line_words ≡ c.args.self.now.shape.line_words = ap (λ (v : CacheValue). v.shape.line_words) c.self.view_is in
     omega (arith, c.requires.words)
 

@@ -1,52 +1,50 @@
-use Rattle.std.proofs.Common.{arith, Bool, ◌+◌, ◌^◌, ◌<◌, ◌∙◌, sym, ap}
-use Rattle.pmsi_model.specs.declared.Action.TheVariants.{Idle}
-use Rattle.pmsi_model.specs.Shared.{BusSide, side_idle}
+use Rattle.std.proofs.Common.{◌≡◌, ◌+◌, ◌^◌, ◌<◌, Bool, ◌∙◌, sym, ap, arith}
+use Rattle.pmsi_model.specs.Shared.{is_ready}
+use Rattle.pend_buffers.specs.declared.Choice.TheVariants.{Idle as IdleChoice, Request as RequestChoice, Back as BackChoice}
 use Rattle.pend_buffers.specs.Pending.{choice_of}
-use Rattle.core_unit.proofs.ActsSlots.{acted_as, back_acted, can_back, can_request, idle_acted, own_of, request_acted, request_keeps, requests, back_keeps, slot_fits}
-use Rattle.core_unit.proofs.state.State.act.Goals.{in-Idle, in-Request, in-Back}
+use Rattle.core_unit.proofs.ActsSlots.{IsDone, can_back, can_request, does_as, done, requests, slot_fits}
+use Rattle.core_unit.proofs.state.State.act.Given.{Over}
+use Rattle.core_unit.proofs.state.State.act.Goals.{Joined-choose, in-Idle, in-Request, in-Back}
 use Rattle.core_unit.proofs.state.State.act.Goals as goal
 
 pub request-action-requires-clause-can : goal.request-action-requires-clause-can
-request-action-requires-clause-can g c = λ want wants.
-    can_request c.requires.job c.args.self.now.slot c.requires.core c.args.self.now (g.P.BusPort.side c.args.bus.now) c.requires.part c.requires.bus c.requires.own want wants
-    (requests c.requires.job c.args.self.now.slot c.requires.core c.args.self.now (g.P.BusPort.side c.args.bus.now) c.requires.part c.requires.bus c.requires.own
-    (ap (λ (ready : Bool). choice_of ready c.args.self.now.pending) (sym c.ready.ensures) ∙ sym c.choose.ensures.choice ∙ c.in-Request.is))
+request-action-requires-clause-can g c = let v = c.args.self.now in let b = g.P.BusPort.side c.args.bus.now in let can = c.requires in λ want wants.
+    can_request can.job v.slot can.core v b can.part can.bus can.own want wants
+    (requests can.job v.slot can.core v b can.part can.bus can.own
+    (ap (λ (ready : Bool). choice_of ready v.pending) (sym c.ready.ensures) ∙ sym c.choose.ensures.choice ∙ c.in-Request.is))
 
 pub write_back-action-requires-clause-first : goal.write_back-action-requires-clause-first
-write_back-action-requires-clause-first g c = λ line lines first.
-    can_back c.requires.job c.args.self.now.slot c.requires.core c.args.self.now (g.P.BusPort.side c.args.bus.now) c.requires.part c.requires.bus c.requires.own line lines first
+write_back-action-requires-clause-first g c = let v = c.args.self.now in let can = c.requires in
+    can_back can.job v.slot can.core v (g.P.BusPort.side c.args.bus.now) can.part can.bus can.own
 
-pub overflow_add-self : goal.overflow_add-self
-overflow_add-self g c = let below : c.match-choose.self.slot + 1 < 2 ^ 32 = elim c.match-choose.branch [
-  | in-Idle w ↦ slot_fits c.requires.job c.args.self.now.slot c.requires.core c.match-choose.action c.match-choose.self (g.P.BusPort.side c.match-choose.bus) (acted_as c.requires.job c.args.self.now.slot c.requires.core c.match-choose.action Idle c.match-choose.self c.args.self.now (g.P.BusPort.side c.match-choose.bus) (side_idle (g.P.BusPort.side c.args.bus.now)) w.action-is w.self-is (ap g.P.BusPort.side w.bus-is ∙ w.idle.ensures)
-      (idle_acted c.requires.job c.args.self.now.slot c.requires.core c.args.self.now (g.P.BusPort.side c.args.bus.now) c.requires.part c.requires.bus c.requires.own (ap (λ (ready : Bool). choice_of ready c.args.self.now.pending) (sym c.ready.ensures) ∙ sym c.choose.ensures.choice ∙ w.in-Idle.is)))
-  | in-Request w ↦ slot_fits c.requires.job c.args.self.now.slot c.requires.core c.match-choose.action c.match-choose.self (g.P.BusPort.side c.match-choose.bus) (acted_as c.requires.job c.args.self.now.slot c.requires.core c.match-choose.action w.request-action.result c.match-choose.self w.request-action.new.self (g.P.BusPort.side c.match-choose.bus) (g.P.BusPort.side w.request-action.new.bus) w.action-is w.self-is (ap g.P.BusPort.side w.bus-is)
-      (request_acted c.requires.job c.args.self.now.slot c.requires.core c.args.self.now (g.P.BusPort.side c.args.bus.now) c.requires.part c.requires.bus c.requires.own (ap (λ (ready : Bool). choice_of ready c.args.self.now.pending) (sym c.ready.ensures) ∙ sym c.choose.ensures.choice ∙ w.in-Request.is)
-      w.request-action.result w.request-action.new.self (g.P.BusPort.side w.request-action.new.bus) w.request-action.ensures))
-  | in-Back w ↦ slot_fits c.requires.job c.args.self.now.slot c.requires.core c.match-choose.action c.match-choose.self (g.P.BusPort.side c.match-choose.bus) (acted_as c.requires.job c.args.self.now.slot c.requires.core c.match-choose.action w.write_back-action.result c.match-choose.self w.write_back-action.new.self (g.P.BusPort.side c.match-choose.bus) (g.P.BusPort.side w.write_back-action.new.bus) w.action-is w.self-is (ap g.P.BusPort.side w.bus-is)
-      (back_acted c.requires.job c.args.self.now.slot c.requires.core c.args.self.now (g.P.BusPort.side c.args.bus.now) c.requires.part c.requires.bus c.requires.own (ap (λ (ready : Bool). choice_of ready c.args.self.now.pending) (sym c.ready.ensures) ∙ sym c.choose.ensures.choice ∙ w.in-Back.is)
-      w.write_back-action.result w.write_back-action.new.self (g.P.BusPort.side w.write_back-action.new.bus) w.write_back-action.ensures))
-] in
-    omega arith
-
-pub returns-clause-acted : goal.returns-clause-acted
-returns-clause-acted g c = λ job slot d p q. let own = own_of job slot d c.args.self.now (g.P.BusPort.side c.args.bus.now) c.requires p in
+-- what was chosen is done
+all : (g : Over) (c : Joined-choose g)
+    → IsDone c.args.self.now (g.P.BusPort.side c.args.bus.now) c.match-choose.action c.match-choose.self (g.P.BusPort.side c.match-choose.bus)
+all g c =
+    let v = c.args.self.now in let b = g.P.BusPort.side c.args.bus.now in
+    let action = c.match-choose.action in let w = c.match-choose.self in let after = g.P.BusPort.side c.match-choose.bus in
+    let chose : choice_of (is_ready b.memory v.number) v.pending ≡ c.choose.result =
+    ap (λ (ready : Bool). choice_of ready v.pending) (sym c.ready.ensures) ∙ sym c.choose.ensures.choice in
     elim c.match-choose.branch [
-      | in-Idle w ↦ acted_as job slot d c.match-choose.action Idle c.match-choose.self c.args.self.now (g.P.BusPort.side c.match-choose.bus) (side_idle (g.P.BusPort.side c.args.bus.now)) w.action-is w.self-is (ap g.P.BusPort.side w.bus-is ∙ w.idle.ensures)
-          (idle_acted job slot d c.args.self.now (g.P.BusPort.side c.args.bus.now) p q own (ap (λ (ready : Bool). choice_of ready c.args.self.now.pending) (sym c.ready.ensures) ∙ sym c.choose.ensures.choice ∙ w.in-Idle.is))
-      | in-Request w ↦ acted_as job slot d c.match-choose.action w.request-action.result c.match-choose.self w.request-action.new.self (g.P.BusPort.side c.match-choose.bus) (g.P.BusPort.side w.request-action.new.bus) w.action-is w.self-is (ap g.P.BusPort.side w.bus-is)
-          (request_acted job slot d c.args.self.now (g.P.BusPort.side c.args.bus.now) p q own (ap (λ (ready : Bool). choice_of ready c.args.self.now.pending) (sym c.ready.ensures) ∙ sym c.choose.ensures.choice ∙ w.in-Request.is)
-          w.request-action.result w.request-action.new.self (g.P.BusPort.side w.request-action.new.bus) w.request-action.ensures)
-      | in-Back w ↦ acted_as job slot d c.match-choose.action w.write_back-action.result c.match-choose.self w.write_back-action.new.self (g.P.BusPort.side c.match-choose.bus) (g.P.BusPort.side w.write_back-action.new.bus) w.action-is w.self-is (ap g.P.BusPort.side w.bus-is)
-          (back_acted job slot d c.args.self.now (g.P.BusPort.side c.args.bus.now) p q own (ap (λ (ready : Bool). choice_of ready c.args.self.now.pending) (sym c.ready.ensures) ∙ sym c.choose.ensures.choice ∙ w.in-Back.is)
-          w.write_back-action.result w.write_back-action.new.self (g.P.BusPort.side w.write_back-action.new.bus) w.write_back-action.ensures)
+      | in-Idle d ↦ done v b c.requires action w after IdleChoice (chose ∙ d.in-Idle.is) (d.action-is, d.self-is, ap g.P.BusPort.side d.bus-is ∙ d.idle.ensures)
+      | in-Request d ↦ done v b c.requires action w after RequestChoice (chose ∙ d.in-Request.is)
+          (does_as RequestChoice v b action d.request-action.result w d.request-action.new.self after (g.P.BusPort.side d.request-action.new.bus)
+          d.action-is d.self-is (ap g.P.BusPort.side d.bus-is) d.request-action.ensures)
+      | in-Back d ↦ done v b c.requires action w after BackChoice (chose ∙ d.in-Back.is)
+          (does_as BackChoice v b action d.write_back-action.result w d.write_back-action.new.self after (g.P.BusPort.side d.write_back-action.new.bus)
+          d.action-is d.self-is (ap g.P.BusPort.side d.bus-is) d.write_back-action.ensures)
     ]
 
+pub overflow_add-self : goal.overflow_add-self
+overflow_add-self g c = let b = g.P.BusPort.side c.args.bus.now in let after = g.P.BusPort.side c.match-choose.bus in
+    let below : c.match-choose.self.slot + 1 < 2 ^ 32 =
+    slot_fits c.args.self.now b c.match-choose.action c.match-choose.self after c.requires (all g c) in omega arith
+
+pub returns-clause-acted : goal.returns-clause-acted
+returns-clause-acted g c = (all g (goal.at.returns-clause-acted g c).Joined-choose).acted
+
 pub returns-clause-keeps : goal.returns-clause-keeps
-returns-clause-keeps g c = elim c.match-choose.branch [
-  | in-Idle w ↦ ap (λ (b : BusSide). b.keeps) (ap g.P.BusPort.side w.bus-is ∙ w.idle.ensures)
-  | in-Request w ↦ ap (λ (b : BusSide). b.keeps) (ap g.P.BusPort.side w.bus-is) ∙ request_keeps c.requires.job c.args.self.now.slot c.requires.core c.args.self.now (g.P.BusPort.side c.args.bus.now) c.requires.part c.requires.bus c.requires.own (ap (λ (ready : Bool). choice_of ready c.args.self.now.pending) (sym c.ready.ensures) ∙ sym c.choose.ensures.choice ∙ w.in-Request.is)
-      w.request-action.result w.request-action.new.self (g.P.BusPort.side w.request-action.new.bus) w.request-action.ensures
-  | in-Back w ↦ ap (λ (b : BusSide). b.keeps) (ap g.P.BusPort.side w.bus-is) ∙ back_keeps c.requires.job c.args.self.now.slot c.requires.core c.args.self.now (g.P.BusPort.side c.args.bus.now) c.requires.part c.requires.bus c.requires.own (ap (λ (ready : Bool). choice_of ready c.args.self.now.pending) (sym c.ready.ensures) ∙ sym c.choose.ensures.choice ∙ w.in-Back.is)
-      w.write_back-action.result w.write_back-action.new.self (g.P.BusPort.side w.write_back-action.new.bus) w.write_back-action.ensures
-]
+returns-clause-keeps g c = (all g (goal.at.returns-clause-keeps g c).Joined-choose).keeps
+
+pub returns-clause-bus_keeps : goal.returns-clause-bus_keeps
+returns-clause-bus_keeps g c = (all g (goal.at.returns-clause-bus_keeps g c).Joined-choose).bus_keeps

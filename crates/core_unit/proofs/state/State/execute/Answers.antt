@@ -1,6 +1,7 @@
 use Rattle.std.proofs.Common.{◌∙◌, sym}
 use Rattle.pmsi_model.proofs.Encodings.{reads_one_way}
 use Rattle.core_unit.proofs.Steps.{asks_memory}
+use Rattle.core_unit.proofs.Touches.{touches_memory}
 use Rattle.core_unit.proofs.state.State.execute.Goals as goal
 
 pub exec-requires : goal.exec-requires
@@ -10,3 +11,8 @@ pub returns-in-Memory-clause-stands : goal.returns-in-Memory-clause-stands
 returns-in-Memory-clause-stands c = λ job c' memory s.
     asks_memory job c' memory c.args.self.now c.access.new.self c.args.word c.in-Some.instr c.exec.new.regs c.in-Memory.access s (sym c.decode.ensures ∙ c.in-Some.is)
     c.in-Memory.ensures.effect c.in-Memory.ensures.writes (c.access.ensures.stands job c' memory)
+
+pub returns-in-Memory-clause-touched : goal.returns-in-Memory-clause-touched
+returns-in-Memory-clause-touched c = λ job c' memory s.
+    touches_memory job c' memory c.args.self.now c.access.new.self c.args.word c.in-Some.instr c.exec.new.regs c.in-Memory.access s (sym c.decode.ensures ∙ c.in-Some.is)
+    c.in-Memory.ensures.effect c.in-Memory.ensures.writes (c.access.ensures.touched job c' memory)

@@ -1,13 +1,13 @@
 use Rattle.std.proofs.Common.{◌≡◌, ◌^◌, ◌<◌, ◌+◌, ap, ◌∙◌, sym, subst}
 use Rattle.core_unit.specs.declared.state.State.{State}
-use Rattle.core_unit.specs.Notes.{CanNoteAction}
+use Rattle.core_unit.specs.Snoops.{CanSnoopAction}
 use Rattle.core_unit.specs.State.{snooped, stepped}
-use Rattle.core_unit.proofs.NotesSlots.{can_hear, has_next, snooped_by, snooped_core}
+use Rattle.core_unit.proofs.SnoopsSlots.{can_snoop_action, has_next, snooped_by, snooped_core, snooped_keeps}
 use Rattle.core_unit.proofs.unit.Core.snoop.Goals.{After-snoop}
 use Rattle.core_unit.proofs.unit.Core.snoop.Goals as goal
 
 pub snoop-requires-clause-room : goal.snoop-requires-clause-room
-snoop-requires-clause-room c = subst (CanNoteAction c.args.action) (sym c.self.view_is) (can_hear c.args.by c.args.action c.args.self.now c.requires)
+snoop-requires-clause-room c = subst (CanSnoopAction c.args.action) (sym c.self.view_is) (can_snoop_action c.args.by c.args.action c.args.self.now c.requires)
 
 pub snoop-requires-clause-more : goal.snoop-requires-clause-more
 snoop-requires-clause-more c = subst (λ (v : State). v.slot + 1 < 2 ^ 32) (sym c.self.view_is) (has_next c.args.by c.args.action c.args.self.now c.requires)
@@ -18,5 +18,8 @@ after c = c.snoop.ensures ∙ ap (λ (v : State). let u : State = stepped (snoop
 pub invariant_of-self : goal.invariant_of-self
 invariant_of-self c = snooped_core c.args.by c.args.action c.args.self.now c.snoop.new.self (after c) c.requires
 
-pub returns : goal.returns
-returns c = λ job slot core part owner other what. snooped_by job slot core c.args.by c.args.action c.args.self.now c.snoop.new.self (after c) part owner other what
+pub returns-clause-snooped : goal.returns-clause-snooped
+returns-clause-snooped c = snooped_by c.args.by c.args.action c.args.self.now c.snoop.new.self (after c)
+
+pub returns-clause-keeps : goal.returns-clause-keeps
+returns-clause-keeps c = snooped_keeps c.args.action c.args.self.now c.snoop.new.self (after c)

@@ -1,0 +1,9 @@
+pub mod Places
+pub mod Digits
+pub mod ExprLists
+pub mod HeldNames
+pub mod Registers
+pub mod Shorter
+pub mod Spans
+pub mod Texts
+pub mod Exports

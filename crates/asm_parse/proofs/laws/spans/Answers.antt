@@ -1,5 +1,0 @@
-use Rattle.asm_parse.proofs.Spans.{apart, starts}
-use Rattle.asm_parse.proofs.laws.spans.Goals as goal
-
-pub returns : goal.returns
-returns c = record { apart = apart; starts = starts }

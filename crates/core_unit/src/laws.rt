@@ -1,0 +1,13 @@
+//! Laws of the definitions: each function has an empty body, and its contract is the law.
+
+ghost use Rattle.core_unit.specs.Laws.{PartsAfterAlike, PartsAlike};
+
+/// What can be read of a core at a boundary is what its job, its number and the slot give.
+pub fn parts_alike()
+    ensures { PartsAlike }
+{}
+
+/// And so it is once the phase of the slot is done.
+pub fn parts_after_alike()
+    ensures { PartsAfterAlike }
+{}

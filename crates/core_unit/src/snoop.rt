@@ -1,0 +1,50 @@
+//! What a core learns of other cores' requests.
+ghost use Rattle.std.specs.Prelude.{◌≡◌, ◌+◌, ◌^◌, ◌<◌};
+ghost use Rattle.core_unit.specs.State.{snooped_request, snooped, stepped};
+ghost use Rattle.core_unit.specs.Snoops.{CanSnoopRequest, CanSnoopAction};
+
+use crate::state::State;
+use pmsi_model::{Action, Kind, Mode};
+
+impl State {
+    /// Snoops another core's request: a write invalidates a shared copy, and an owner has the line to write back.
+    fn snoop_request(&mut self, kind: Kind, line: u32)
+        requires { CanSnoopRequest line self.old }
+        ensures { self.new ≡ snooped_request kind line self.old }
+    {
+        match (self.cache.find(line), kind) {
+            (None, _) | (Some(Mode::Shared), Kind::Read) => {}
+            (Some(Mode::Shared), Kind::Write) => self.cache.drop_line(line),
+            (Some(Mode::Modified), Kind::Read) => self.demand(line),
+            (Some(Mode::Modified), Kind::Write) => {
+                self.demand(line);
+                self.claimed.insert(line);
+            }
+        }
+    }
+
+    /// Snoops another core's action.
+    fn snoop_action(&mut self, action: Action)
+        requires { CanSnoopAction action self.old }
+        ensures { self.new ≡ snooped action self.old }
+    {
+        match action {
+            Action::Post(name, line) | Action::PostFill(name, line) => self.snoop_request(
+                name.kind(),
+                line,
+            ),
+            Action::Idle | Action::Fill(_) | Action::Back(..) => {}
+        }
+    }
+
+    /// Snoops the action of the slot's owner, and ends the slot.
+    pub fn snoop(&mut self, action: Action)
+        requires room { CanSnoopAction action self.old }
+        requires more { self.old.slot + 1 < 2 ^ 32 }
+        ensures { self.new ≡ stepped (snooped action self.old) }
+    {
+        self.snoop_action(action);
+        self.slot += 1;
+        self.phase_done = false;
+    }
+}

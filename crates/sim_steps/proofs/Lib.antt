@@ -1,0 +1,4 @@
+pub mod Meetings
+mod Ends
+mod Spreads
+mod Steps

@@ -1,0 +1,15 @@
+//! Cores and their bus that take steps in any order that the bus allows. Whatever the order was, each of them is the
+//! written machine's, at a slot of its own.
+#![tactic(auto)]
+
+mod core_step;
+pub mod laws;
+mod meeting;
+mod spread;
+#[cfg(test)]
+mod tests;
+mod took;
+
+pub use pmsi_model::Step;
+pub use spread::Spread;
+pub use took::Took;

@@ -1,0 +1,94 @@
+-- What a command comes to on files: the names that it opens, in order, and its end, which is a refusal or a result. A course
+-- is a predicate on these, since a file that tells nothing may have any bytes.
+use Rattle.std.specs.Prelude.{◌≡◌, ◌⊎◌, ℕ, ◌+◌, ◌<◌, ◌≤◌, List, [], ◌∷◌, ◌++◌, length, Option, Some, ⊤}
+use Rattle.pmsi_model.specs.declared.Keep.{Keep}
+use Rattle.pmsi_model.specs.declared.limits.TheConstants.{MAX_FILE_BYTES}
+use Rattle.pmsi_model.specs.Image.{ImageValue}
+use Rattle.pmsi_model.specs.Job.{JobValue}
+use Rattle.pmsi_model.specs.Listing.{listing_of}
+use Rattle.pmsi_outside.specs.Files.{Contents, Tells}
+use Rattle.asm_print.specs.ListingText.{listing_text}
+use Rattle.image_file.specs.Format.{image_bytes}
+use Rattle.job_text.specs.declared.plan.JobPlan.{JobPlan}
+use Rattle.job_text.specs.declared.plan.Program.{Program}
+use Rattle.job_text.specs.declared.plan.Program.TheVariants.{Words, Asm, Image}
+use Rattle.job_text.specs.Plans.{IsPlanOf}
+use Rattle.tool_words.specs.Meaning.{AskedValue, run, asm, dis, image}
+use Rattle.tool_files.specs.declared.refusal.Place.{Place}
+use Rattle.tool_files.specs.declared.refusal.Place.TheVariants.{Input, Core}
+use Rattle.tool_files.specs.declared.refusal.Detail.{Detail}
+use Rattle.tool_files.specs.declared.refusal.Detail.TheVariants.{Large}
+use Rattle.tool_files.specs.Parsed.{IsSource, SourceFails, IsImageFile, ImageFails, JobFails, image_of_words, IsMachine, MachineFails}
+
+-- a name that is opened, a refusal with its place, or a result
+pub data Step (V : Type 0) : Type 0 where
+  opens : List ℕ → Step V
+  refuses : Place → Detail → Step V
+  gives : V → Step V
+
+-- these are the contents of the name, where contents are told
+abbrev pub Reads : Option Contents → List ℕ → List ℕ → Type 0
+Reads contents name held = Tells contents name (λ told. told ≡ held)
+
+-- ---- stages
+
+-- nothing more is opened
+abbrev pub ends : {V : Type 0} → V → Step V → Type 0
+ends value step = step ≡ gives value
+
+-- a file that isn't too large, and then what follows on its bytes
+abbrev pub within : {V : Type 0} → Place → (List ℕ → Step V → Type 0) → List ℕ → Step V → Type 0
+within place then held step = ((MAX_FILE_BYTES < length held) × (step ≡ refuses place Large)) ⊎ ((length held ≤ MAX_FILE_BYTES) × then held step)
+
+-- a file is opened and read, and then what follows on its bytes
+abbrev pub file : {V : Type 0} → Option Contents → Place → List ℕ → (List ℕ → Step V → Type 0) → Step V → Type 0
+file contents place name then step = (step ≡ opens name) ⊎ ((held : List ℕ) × Reads contents name held × within place then held step)
+
+-- something is refused, or gives a value, and then what follows on it
+abbrev pub checked : {V W : Type 0} → Place → (V → Type 0) → (Detail → Type 0) → (V → Step W → Type 0) → Step W → Type 0
+checked {V} place Is Fails then step = ((detail : Detail) × Fails detail × (step ≡ refuses place detail)) ⊎ ((value : V) × Is value × then value step)
+
+-- ---- files of a kind
+
+abbrev pub source_file : {V : Type 0} → Option Contents → Place → List ℕ → (ImageValue → Step V → Type 0) → Step V → Type 0
+source_file contents place name then = file contents place name (λ held. checked place (IsSource held) (SourceFails held) then)
+
+abbrev pub image_file : {V : Type 0} → Option Contents → Place → List ℕ → (ImageValue → Step V → Type 0) → Step V → Type 0
+image_file contents place name then = file contents place name (λ held. checked place (IsImageFile held) (ImageFails held) then)
+
+-- the program of a core
+abbrev pub program : {V : Type 0} → Option Contents → ℕ → Program → (ImageValue → Step V → Type 0) → Step V → Type 0
+program contents core (Words words) then = then (image_of_words words)
+program contents core (Asm name) then = source_file contents (Core core) name then
+program contents core (Image name) then = image_file contents (Core core) name then
+
+-- the programs of a plan, core by core, behind those before
+abbrev pub programs : {V : Type 0} → Option Contents → ℕ → List Program → List ImageValue → (List ImageValue → Step V → Type 0) → Step V → Type 0
+programs contents core [] images then = then images
+programs contents core (p ∷ ps) images then = program contents core p (λ i. programs contents (core + 1) ps (images ++ i ∷ []) then)
+
+-- what follows on a plan: its programs, and the job of which so much is to be kept
+abbrev pub planned : {V : Type 0} → Option Contents → Keep → (JobValue → Step V → Type 0) → JobPlan → Step V → Type 0
+planned contents keep then plan =
+    programs contents 0 plan.programs [] (λ images. checked Input (IsMachine keep plan.shape images) (MachineFails keep plan.shape images) then)
+
+-- a job's own file
+abbrev pub plan_file : {V : Type 0} → Option Contents → List ℕ → (JobPlan → Step V → Type 0) → Step V → Type 0
+plan_file contents name then = file contents Input name (λ held. checked Input (IsPlanOf held) (JobFails held) then)
+
+-- a job's own file, and then those of its programs
+abbrev pub job_file : {V : Type 0} → Option Contents → Keep → List ℕ → (JobValue → Step V → Type 0) → Step V → Type 0
+job_file contents keep name then = plan_file contents name (planned contents keep then)
+
+-- ---- commands, a row each
+
+abbrev pub Comes : Option Contents → AskedValue → Step (List ℕ) → Type 0
+Comes contents (run keep name) = job_file contents keep name (λ j. ends (listing_of j keep))
+Comes contents (asm name) = source_file contents Input name (λ i. ends (image_bytes i))
+Comes contents (dis name) = image_file contents Input name (λ i. ends (listing_text i))
+Comes contents (image name) = image_file contents Input name (λ i. ends (image_bytes i))
+
+-- a refusal or a result
+abbrev pub IsEnd : {V : Type 0} → Step V → Type 0
+IsEnd (opens name) = ⊥
+IsEnd step = ⊤

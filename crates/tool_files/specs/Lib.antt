@@ -1,0 +1,5 @@
+pub mod Parsed
+pub mod Course
+pub mod Ordered
+pub mod Stops
+pub mod Laws

@@ -1,0 +1,15 @@
+//! What a call asks for.
+use pmsi_model::Keep;
+
+/// A command with its values. A file's name is the text of its word, which may be empty.
+#[derive(Clone, Copy, Debug, PartialEq, Eq)]
+pub enum Asked<'a> {
+    /// Simulate the job of this file, and print its listing with what is kept.
+    Run { keep: Keep, job: &'a str },
+    /// Assemble the source of this file.
+    Asm(&'a str),
+    /// List the image of this file.
+    Dis(&'a str),
+    /// Read the image of this file, and write its bytes.
+    Image(&'a str),
+}

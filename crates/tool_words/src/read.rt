@@ -1,0 +1,141 @@
+//! Reading the words of a call.
+ghost use Rattle.std.specs.Prelude.{◌≡◌, ◌≢◌, IfOk, None, false, map, option_map, string_bytes};
+ghost use Rattle.clap.specs.Words.{app_of, kind_of, rule_of};
+ghost use Rattle.tool_words.specs.Clap.{IsFoundIn, app_for, choice_rule, chosen, place_rule, placed};
+ghost use Rattle.tool_words.specs.Meaning.{answer_in, keep_in, meaning, value_of, values_in};
+
+use crate::asked::Asked;
+use crate::table::{Choice, Command, Place, command_named};
+use clap::error::ErrorKind;
+use clap::{Arg, ArgAction, ArgMatches, Error};
+use pmsi_model::{Keep, NoMemory};
+use std::alloc::{AllocError, Global};
+
+fn choice_arg<'a>(alloc: Global, choice: Choice) -> Arg<'a>
+    ensures rule { rule_of result ≡ choice_rule choice }
+    ensures own { result.global ≡ false }
+{
+    Arg::new(alloc, choice.id())
+        .long(choice.id())
+        .action(ArgAction::Set)
+}
+
+fn place_arg<'a>(alloc: Global, place: Place) -> Arg<'a>
+    ensures rule { rule_of result ≡ place_rule place }
+    ensures own { result.global ≡ false }
+{
+    Arg::new(alloc, place.id())
+        .required(true)
+        .action(ArgAction::Set)
+}
+
+/// The command as clap sees it.
+fn line_of<'a>(alloc: Global, command: Command) -> Result<clap::Command<'a>, AllocError>
+    ensures { IfOk result (λ line. app_of line ≡ app_for command) }
+{
+    let mut line = clap::Command::new(alloc, command.word());
+    for choice in command.choices() {
+        line = line.arg(choice_arg(alloc, *choice))?;
+    }
+    for place in command.places() {
+        line = line.arg(place_arg(alloc, *place))?;
+    }
+    Ok(line)
+}
+
+/// What clap finds in the words of a command, the first of which is the command's own. None where clap refuses them for
+/// another cause than memory.
+fn found_of<'a>(
+    alloc: Global,
+    command: Command,
+    words: &'a [String],
+) -> Result<Option<ArgMatches<'a>>, NoMemory>
+    ensures { IfOk result (λ found. IsFoundIn found command (map string_bytes words.now)) }
+{
+    let line = line_of(alloc, command)?;
+    match line.try_get_matches_from(words) {
+        Ok(matches) => Ok(Some(matches)),
+        Err(error) => refused(&error),
+    }
+}
+
+/// No matches, but where clap found no memory.
+fn refused<'a>(error: &Error) -> Result<Option<ArgMatches<'a>>, NoMemory>
+    ensures refused { IfOk result (λ found. found ≡ None × (kind_of error.now ≢ ErrorKind.OutOfMemory)) }
+{
+    if error.kind() == ErrorKind::OutOfMemory {
+        Err(NoMemory)
+    } else {
+        Ok(None)
+    }
+}
+
+/// Whether an option's text is `yes`. It is `no` where the option isn't given.
+fn answer(text: Option<&str>) -> Option<bool>
+    ensures { result ≡ answer_in (option_map (λ text. text.now) text.entry) }
+{
+    match text {
+        None => Some(false),
+        Some("yes") => Some(true),
+        Some("no") => Some(false),
+        Some(_) => None,
+    }
+}
+
+fn choice<'a>(found: &ArgMatches<'a>, choice: Choice) -> Option<&'a str>
+    ensures { option_map (λ text. text.now) result ≡ chosen found.now choice }
+{
+    found.get_str(choice.id())
+}
+
+fn place<'a>(found: &ArgMatches<'a>, place: Place) -> Option<&'a str>
+    ensures { option_map (λ text. text.now) result ≡ placed found.now place }
+{
+    found.get_str(place.id())
+}
+
+/// What is kept of a run.
+fn keep(found: &ArgMatches) -> Option<Keep>
+    ensures { result ≡ keep_in (chosen found.now Choice.Trace) (chosen found.now Choice.Touches) }
+{
+    let trace = answer(choice(found, Choice::Trace))?;
+    let touches = answer(choice(found, Choice::Touches))?;
+    Some(Keep { trace, touches })
+}
+
+/// The values of a command.
+fn values<'a>(command: Command, found: &ArgMatches<'a>) -> Option<Asked<'a>>
+    ensures { option_map value_of result ≡ values_in command (chosen found.now) (placed found.now) }
+{
+    match command {
+        Command::Run => run(found),
+        Command::Asm => Some(Asked::Asm(place(found, Place::Source)?)),
+        Command::Dis => Some(Asked::Dis(place(found, Place::Image)?)),
+        Command::Image => Some(Asked::Image(place(found, Place::Image)?)),
+    }
+}
+
+fn run<'a>(found: &ArgMatches<'a>) -> Option<Asked<'a>>
+    ensures { option_map value_of result ≡ values_in Command.Run (chosen found.now) (placed found.now) }
+{
+    let keep = keep(found)?;
+    let job = place(found, Place::Job)?;
+    Some(Asked::Run { keep, job })
+}
+
+/// What the words ask for, the program's name not among them. None where they name no command, where clap refuses them for
+/// another cause than memory, `--help` and `-h` included, and where an option's value is neither `yes` nor `no`.
+pub fn asked_of<'a>(alloc: Global, words: &'a [String]) -> Result<Option<Asked<'a>>, NoMemory>
+    ensures { IfOk result (λ asked. option_map value_of asked ≡ meaning (map string_bytes words.now)) }
+{
+    let Some(word) = words.first() else {
+        return Ok(None);
+    };
+    let Some(command) = command_named(word.as_str()) else {
+        return Ok(None);
+    };
+    let Some(found) = found_of(alloc, command, words)? else {
+        return Ok(None);
+    };
+    Ok(values(command, &found))
+}

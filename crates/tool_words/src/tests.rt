@@ -1,0 +1,98 @@
+//! Calls by their words, and what they ask for.
+use crate::{Asked, asked_of};
+use pmsi_model::Keep;
+use std::alloc::{AllocError, Global};
+
+fn list(alloc: Global, texts: &[&str]) -> Result<Vec<String>, AllocError> {
+    let mut words = Vec::new(alloc);
+    for text in texts {
+        words.push(String::from_str(alloc, text)?)?;
+    }
+    Ok(words)
+}
+
+fn asks(alloc: Global, texts: &[&str], expected: Option<Asked>) -> bool {
+    let Ok(words) = list(alloc, texts) else {
+        return false;
+    };
+    asked_of(alloc, &words) == Ok(expected)
+}
+
+fn run(trace: bool, touches: bool, job: &str) -> Option<Asked> {
+    let keep = Keep { trace, touches };
+    Some(Asked::Run { keep, job })
+}
+
+#[test]
+fn canonical_words(rt: HostRuntime) {
+    let alloc = rt.alloc();
+    for (words, expected) in [
+        (["run", "a"].as_slice(), run(false, false, "a")),
+        (&["run", "--trace", "yes", "a"], run(true, false, "a")),
+        (&["run", "--touches", "yes", "a"], run(false, true, "a")),
+        (
+            &["run", "--trace", "no", "--touches", "yes", "a"],
+            run(false, true, "a"),
+        ),
+        (
+            &["run", "--trace", "yes", "--touches", "no", "help"],
+            run(true, false, "help"),
+        ),
+        (&["asm", "a.s"], Some(Asked::Asm("a.s"))),
+        (&["dis", "a.img"], Some(Asked::Dis("a.img"))),
+        (&["image", "a.img"], Some(Asked::Image("a.img"))),
+    ] {
+        assert!(rt; asks(alloc, words, expected));
+    }
+}
+
+#[test]
+fn other_words_with_a_meaning(rt: HostRuntime) {
+    let alloc = rt.alloc();
+    for (words, expected) in [
+        (
+            ["run", "--touches", "yes", "--trace", "no", "a"].as_slice(),
+            run(false, true, "a"),
+        ),
+        (&["run", "a", "--trace=yes"], run(true, false, "a")),
+        (
+            &["run", "--trace", "yes", "--", "--touches"],
+            run(true, false, "--touches"),
+        ),
+        (&["run", "--", "-h"], run(false, false, "-h")),
+        (&["run", ""], run(false, false, "")),
+        (&["asm", "--", "--"], Some(Asked::Asm("--"))),
+        (&["dis", "-"], Some(Asked::Dis("-"))),
+    ] {
+        assert!(rt; asks(alloc, words, expected));
+    }
+}
+
+#[test]
+fn words_without_a_meaning(rt: HostRuntime) {
+    let alloc = rt.alloc();
+    for words in [
+        [].as_slice(),
+        &[""],
+        &["fly", "a"],
+        &["Run", "a"],
+        &["--help"],
+        &["run"],
+        &["run", "a", "b"],
+        &["run", "--help"],
+        &["run", "-h", "a"],
+        &["run", "--trace", "yes", "--trace", "yes", "a"],
+        &["run", "--speed", "yes", "a"],
+        &["run", "a", "--trace"],
+        &["run", "--trace", "--touches", "yes", "a"],
+        &["run", "--trace", "Yes", "a"],
+        &["run", "--trace", "", "a"],
+        &["run", "--touches=", "a"],
+        &["asm"],
+        &["asm", "--trace", "yes", "a.s"],
+        &["dis", "a.img", "b.img"],
+        &["image", "--help"],
+    ] {
+        assert!(rt; asks(alloc, words, None));
+    }
+}
