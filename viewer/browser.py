@@ -124,6 +124,10 @@ class Browser:
         feature = {"name": "prefers-color-scheme", "value": "dark" if dark else "light"}
         self._call("Emulation.setEmulatedMedia", features=[feature])
 
+    def save_into(self, folder):
+        """Where files go that the page saves."""
+        self._call("Browser.setDownloadBehavior", session=None, behavior="allow", downloadPath=folder)
+
     def screenshot(self):
         """The page as it stands, as the bytes of a PNG."""
         self.run("new Promise((done) => requestAnimationFrame(() => requestAnimationFrame(() => done(0))))")
