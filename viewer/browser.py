@@ -42,7 +42,7 @@ class Browser:
             targets = self._call("Target.getTargets", session=None)["targetInfos"]
             page = next(target["targetId"] for target in targets if target["type"] == "page")
             self.session = self._call("Target.attachToTarget", session=None, targetId=page, flatten=True)["sessionId"]
-            for domain in ("Page", "Runtime", "DOM", "Log", "Network"):
+            for domain in ("Page", "Runtime", "DOM", "Log", "Network", "Performance"):
                 self._call(f"{domain}.enable")
             self.resize(*self.size)
             self.set_dark(False)
@@ -133,6 +133,11 @@ class Browser:
         self.run("new Promise((done) => requestAnimationFrame(() => requestAnimationFrame(() => done(0))))")
         return base64.b64decode(self._call("Page.captureScreenshot", format="png")["data"])
 
+    def busy_seconds(self):
+        """The processor time that the page has used, all its threads together."""
+        metrics = self._call("Performance.getMetrics")["metrics"]
+        return next(metric["value"] for metric in metrics if metric["name"] == "ProcessTime")
+
     def complaints(self):
         """What the page threw or logged as an error, and what it asked the network for, since it was opened."""
         said = []
@@ -153,7 +158,7 @@ class Browser:
         message = {"id": self.count, "method": method, "params": params}
         if session is not None:
             message["sessionId"] = session or self.session
-        os.write(self.sink, json.dumps(message).encode() + b"\0")
+        self._send(json.dumps(message).encode() + b"\0")
         while True:
             answer = self._receive()
             if answer.get("id") == self.count:
@@ -163,6 +168,13 @@ class Browser:
         if "error" in answer:
             raise PageError(f"{method}: {answer['error']['message']}")
         return answer["result"]
+
+    def _send(self, data):
+        try:
+            while data:
+                data = data[os.write(self.sink, data):]
+        except BrokenPipeError:
+            raise PageError("the browser ended") from None
 
     def _receive(self):
         """The next message; each ends with a zero byte."""
@@ -186,10 +198,12 @@ def _start(chromium, profile, width, height):
         os.dup2(commands_out, 3)
         os.dup2(answers_in, 4)
 
-    process = subprocess.Popen(
-        [chromium, *FLAGS, f"--user-data-dir={profile}", f"--window-size={width},{height}", "about:blank"],
-        stdin=subprocess.DEVNULL, stdout=subprocess.DEVNULL, stderr=subprocess.DEVNULL,
-        pass_fds=(3, 4), preexec_fn=place_pipes)
+    words = [chromium, *FLAGS, f"--user-data-dir={profile}", f"--window-size={width},{height}", "about:blank"]
+    quiet = {"stdin": subprocess.DEVNULL, "stdout": subprocess.DEVNULL, "stderr": subprocess.DEVNULL}
+    try:
+        process = subprocess.Popen(words, pass_fds=(3, 4), preexec_fn=place_pipes, **quiet)
+    except OSError as error:
+        raise PageError(str(error)) from None
     os.close(commands_out)
     os.close(answers_in)
     return process, commands_in, answers_out
