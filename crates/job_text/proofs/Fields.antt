@@ -26,7 +26,7 @@ skip [] = refl
 skip (byte ∷ text) = skip_by byte text (is_blank byte) refl (skip text)
 
 -- a field in front
-first_before : (field rest : List ℕ) (text : List ℕ) → 0 < length field → slice_split is_blank text ≡ field ∷ slice_split is_blank rest → fields_between text ≡ field ∷ fields_between rest
+pub first_before : (field rest : List ℕ) (text : List ℕ) → 0 < length field → slice_split is_blank text ≡ field ∷ slice_split is_blank rest → fields_between text ≡ field ∷ fields_between rest
 unfolding fields_between
 first_before [] rest text some e = absurd (omega arith)
 first_before (byte ∷ field) rest text some e = rw e refl

@@ -16,6 +16,10 @@ pub mod OneJoin
 pub mod ExampleTexts
 pub mod PieceBytes
 pub mod PlanLimits
+pub mod PrintedFields
+pub mod PrintedLines
+pub mod PrintedPlans
+pub mod PrintedSayings
 pub mod RowReads
 pub mod SayingLists
 pub mod Searches

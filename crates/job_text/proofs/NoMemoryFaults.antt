@@ -1,9 +1,8 @@
 -- Want of memory is no fault of a text.
-use Rattle.std.proofs.Common.{◌≡◌, ◌≢◌, ℕ, Bool, true, false, cond, List, [], ◌∷◌, ◌++◌, map, Option, Some, None, Ok, Err, refl, option_map}
+use Rattle.std.proofs.Common.{◌≡◌, ◌≢◌, ℕ, Bool, true, false, cond, List, [], ◌∷◌, ◌++◌, map, Option, Some, None, Ok, Err, option_map}
 use Rattle.std.specs.Prelude.{Result, codes, is_none, nat_le}
 use Rattle.std.specs.List.{filter, find}
 use Rattle.std.specs.Str.{is_utf8}
-use Rattle.job_text.specs.declared.job_fault.HeadWord.{HeadWord}
 use Rattle.job_text.specs.declared.job_fault.HeadWord.TheVariants as head
 use Rattle.job_text.specs.declared.job_fault.LineCause.{LineCause}
 use Rattle.job_text.specs.declared.job_fault.LineCause.TheVariants as cause

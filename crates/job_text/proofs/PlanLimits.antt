@@ -1,27 +1,23 @@
 -- A text's plan is within the limits.
-use Rattle.std.proofs.Common.{◌≡◌, ℕ, zero, suc, ◌+◌, ◌*◌, ◌%◌, ◌<◌, ◌≤◌, Bool, true, false, cond, List, [], ◌∷◌, map, length, get_or, Option, Some, None, refl, sym, ◌∙◌, ap, subst, arith}
-use Rattle.std.specs.Prelude.{◌&&◌, ◌==◌, nat_le, nat_lt, slice_get}
+use Rattle.std.proofs.Common.{◌≡◌, ℕ, zero, suc, ◌*◌, ◌%◌, ◌<◌, ◌≤◌, Bool, true, false, cond, List, [], ◌∷◌, map, length, get_or, Option, Some, None, refl, sym, ◌∙◌, ap, subst, arith}
+use Rattle.std.specs.Prelude.{◌&&◌, ◌==◌, nat_le, nat_lt}
 use Rattle.std.specs.Int.{is_power_of_two}
-use Rattle.std.specs.List.{All, range_with_len}
 use Rattle.std.specs.Option.{unwrap_or}
 use Rattle.std.proofs.lemmas.Bool.Decides.{nat_tests}
 use Rattle.std.proofs.lemmas.List.FromFn.{length-range_with_len}
 use Rattle.pmsi_model.specs.declared.limits.TheConstants.{MAX_CORES, MAX_LINE_WORDS, MAX_MEMORY, MAX_QUANTUM, MAX_SETS, MAX_SLOTS, MAX_TEXT_WORDS, MAX_WAYS, MIN_LINE_WORDS, MIN_MEMORY}
-use Rattle.pmsi_model.specs.declared.job.Geometry.{Geometry}
-use Rattle.pmsi_model.specs.Geometry.{IsGeometry}
 use Rattle.job_text.specs.declared.job_fault.HeadWord.{HeadWord}
 use Rattle.job_text.specs.declared.job_fault.HeadWord.TheVariants as head
 use Rattle.job_text.specs.declared.job_fault.JobFault.{JobFault}
 use Rattle.job_text.specs.declared.job_fault.JobFault.TheVariants.{Limit}
-use Rattle.job_text.specs.declared.plan.JobPlan.{JobPlan}
 use Rattle.job_text.specs.declared.plan.Program.{Program}
 use Rattle.job_text.specs.declared.plan.Program.TheVariants.{Asm, Image, Words}
 use Rattle.job_text.specs.declared.saying.Saying.{Saying}
 use Rattle.job_text.specs.Faults.{cores_below, first_of, is_between, is_within, number_of, program_of, said_in, text_limit, value_of, words_limit}
 use Rattle.job_text.specs.Laws.{PlansFit}
-use Rattle.job_text.specs.Plans.{HasFewWords, IsPlan, IsPlanOf}
+use Rattle.job_text.specs.Plans.{HasFewWords}
 use Rattle.job_text.proofs.EitherEnd.{parts, said_faultless}
-use Rattle.job_text.proofs.Makings.{are_within, first_none, here_at, said_cores}
+use Rattle.job_text.proofs.Makings.{are_within, first_none, here_at}
 use Rattle.job_text.proofs.OneJoin.{get_some}
 
 both : (a b : Bool) → (a && b) ≡ true → (a ≡ true) × (b ≡ true)

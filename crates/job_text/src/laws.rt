@@ -1,6 +1,6 @@
 //! Laws of job texts: each function has an empty body, and its contract is the law.
 
-ghost use Rattle.job_text.specs.Laws.{JobOrFault, JobOrFaultOnly, JoinNeverMemory, NeverMemory, OneFault, OneJob, OneJoinFault, OnePlan, PlanOrFault, PlanOrFaultOnly, PlansFit};
+ghost use Rattle.job_text.specs.Laws.{JobOrFault, JobOrFaultOnly, JoinNeverMemory, NeverMemory, OneFault, OneJob, OneJoinFault, OnePlan, PlanOrFault, PlanOrFaultOnly, PlansFit, PrintedMeans};
 
 /// A text has one plan or one fault, and not both, and want of memory is no fault of it.
 pub fn plan_or_fault()
@@ -14,6 +14,11 @@ pub fn plan_or_fault()
 /// A text's plan is within the limits.
 pub fn plans_fit()
     ensures { PlansFit }
+{}
+
+/// The text of a plan that can be printed means that plan.
+pub fn plans_print()
+    ensures { PrintedMeans }
 {}
 
 /// The images of cores have one job or one fault, and not both, and want of memory is no fault of theirs.

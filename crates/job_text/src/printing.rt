@@ -2,7 +2,7 @@
 
 ghost use Rattle.std.specs.Prelude.{◌≡◌, ◌++◌, OnOk, IfOk};
 ghost use Rattle.std.specs.List.{flat_map};
-ghost use Rattle.job_text.specs.Plans.{core_line, core_lines, number_line, plan_text, program_fields, shape_lines, word_field};
+ghost use Rattle.job_text.specs.Plans.{IsPlanOf, IsPrintable, core_line, core_lines, number_line, plan_text, program_fields, shape_lines, word_field};
 
 use crate::plan::{JobPlan, Program};
 use pmsi_model::{Geometry, NoMemory};
@@ -12,7 +12,9 @@ use text_out::{hex_word, push_number, push_text};
 /// The text of a plan: the version, the heads in their order, and the cores by their numbers.
 #[tactic(auto, unfolding(crate::specs::Plans::plan_text))]
 pub fn print_plan(alloc: Global, plan: &JobPlan) -> Result<Vec<u8>, NoMemory>
-    ensures { IfOk result (λ bytes. bytes.items ≡ plan_text plan.now) }
+    ensures text { IfOk result (λ bytes. bytes.items ≡ plan_text plan.now) }
+    // Where the plan can be printed, what its text means is the plan.
+    ensures means { IfOk result (λ bytes. IsPrintable plan.now → IsPlanOf bytes.items plan.now) }
 {
     let mut out = Vec::new(alloc);
     push_text(&mut out, "pmsi 1\n")?;

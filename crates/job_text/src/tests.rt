@@ -1,7 +1,11 @@
-ghost use Rattle.std.specs.Prelude.{◌≡◌, IfOk};
+ghost use Rattle.std.specs.Prelude.{◌≡◌, IfErr, IfOk, IfSome};
+ghost use Rattle.job_text.specs.declared.job_fault.JobFault.{JobFault};
+ghost use Rattle.job_text.specs.Plans.{IsPrintable};
 ghost use Rattle.pmsi_model.specs.Image.{IsImage};
 
-use crate::{HeadWord, JobFault, LineCause, Program, join_job, print_plan, read_plan};
+use crate::{
+    HeadWord, JobFault, JobPlan, LineCause, Program, Programs, join_job, print_plan, read_plan,
+};
 use pmsi_model::limits::MAX_FILE_BYTES;
 use pmsi_model::{Bytes, Geometry, Image, Job, Piece, Pieces, Words};
 use std::alloc::{AllocError, Global};
@@ -30,6 +34,44 @@ fn reads_and_prints_a_plan(rt: HostRuntime) -> Result<(), Fail> {
     let expected =
         "pmsi 1\ncores 2\nquantum 3\nline 8\nsets 4\nways 2\nmemory 128\nslots 9\ncore 0 hex 0000007f abcdef01\ncore 1 asm \u{e9}.s\n";
     assert_eq!(rt; printed.as_slice(), expected.as_bytes());
+    Ok(())
+}
+
+/// What is read from the text that is printed of a plan, unless the text is too long.
+fn read_again(alloc: Global, plan: &JobPlan) -> Result<Option<JobPlan>, JobFault>
+    requires { IsPrintable plan.now }
+    ensures plan { IfOk result (λ again. IfSome again (λ again. again ≡ plan.now)) }
+    ensures fault { IfErr result (λ fault. fault ≡ JobFault.NoMemory) }
+{
+    let Ok(text) = print_plan(alloc, plan) else {
+        return Err(JobFault::NoMemory);
+    };
+    if text.len() > MAX_FILE_BYTES as usize {
+        return Ok(None);
+    }
+    match read_plan(alloc, text.as_slice()) {
+        Ok(again) => Ok(Some(again)),
+        Err(fault) => Err(fault),
+    }
+}
+
+#[test]
+fn reads_a_printed_plan_again(rt: HostRuntime) -> Result<(), Fail> {
+    let words = Vec::from_slice(rt.alloc(), &[0x7fu32, 0xabcd_ef01])?;
+    let mut programs = Vec::new(rt.alloc());
+    programs.push(Program::Words(Words::from_vec(words)))?;
+    let plan = JobPlan {
+        shape: Geometry { cores: 1, ..SHAPE },
+        programs: Programs::from_vec(programs),
+    };
+    let again = read_again(rt.alloc(), &plan)
+        .ok()
+        .flatten()
+        .ok_or("the text is that of a plan")?;
+    assert!(rt; again.shape == plan.shape);
+    assert!(rt;
+        matches!(again.programs.as_slice(), [Program::Words(words)] if words.as_slice() == [0x7fu32, 0xabcd_ef01].as_slice())
+    );
     Ok(())
 }
 
