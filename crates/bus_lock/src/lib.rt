@@ -1,0 +1,17 @@
+//! A bus that cores on any threads meet under a lock.
+#![tactic(auto)]
+
+mod about;
+mod closing;
+mod meeting;
+mod opening;
+mod rule;
+mod seat;
+mod trying;
+mod view;
+
+pub use seat::{BusSeat, SharedBus};
+pub use trying::Met;
+
+#[cfg(test)]
+mod tests;
