@@ -143,10 +143,10 @@ abbrev pub Rests : Hand → Type 0
 Rests m = (m.0.holding ≡ false) × (m.0.spent ≡ false) × (m.1 ≡ [])
 
 -- it has the lock and the slot, out of which it took this bus
-pub record Takes (m m' : Hand) (bus : BusSide) : Type 0 where
-  pub hand : m' ≡ (took m.0 bus.slot, (0, None) ∷ [])
-  pub bus : IsBusAt m.0.job m.0.keeps bus.slot bus
-  pub fits : Fits m.0.job m.0.number m.0.count bus.slot
+pub record Takes (m m' : Hand) (b : BusSide) : Type 0 where
+  pub hand : m' ≡ (took m.0 b.slot, (0, None) ∷ [])
+  pub bus : IsBusAt m.0.job m.0.keeps b.slot b
+  pub fits : Fits m.0.job m.0.number m.0.count b.slot
 
 -- it has them
 abbrev pub IsHolding : Hand → Type 0

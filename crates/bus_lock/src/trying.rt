@@ -53,7 +53,8 @@ fn end_slot(place: &Place, chair: &mut Chair, bus: Bus)
     ensures seat { chair.new.me ≡ (slot_over chair.old.me.0, []) }
 {
     let next = bus.slot();
-    place.exchange(chair, 0, Some(bus));
+    let back = Some(bus);
+    place.exchange(chair, 0, back);
     place.swap::<EndsSlot>(chair, 0, 2 * u64::from(next));
 }
 

@@ -1,0 +1,6 @@
+pub mod Meetings
+pub mod Views
+pub mod LockTries
+pub mod LockReleases
+pub mod SeatLists
+pub mod Seatings

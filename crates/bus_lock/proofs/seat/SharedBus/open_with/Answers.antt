@@ -1,0 +1,20 @@
+use Rattle.std.proofs.Common.{rules, ◌≡◌, ◌+◌, ◌++◌, [], ◌∷◌, set, subst, sym}
+use Rattle.bus_lock.specs.Seats.{Seated}
+use Rattle.bus_lock.proofs.Seatings.{can_open, own_root, seated_more}
+use Rattle.bus_lock.proofs.seat.SharedBus.open_with.Goals as goal
+
+pub loop-preserved : goal.loop-preserved
+loop-preserved c =
+    let about = c.args.about.now in
+    let bus = c.in_ok-shared.shared in
+    let xs = c.loop.seats.items in
+    let root = c.index_mut.result.now in
+    let next = c.seat-seat.new.root in
+    let seat = c.seat-seat.result in
+    let e : c.push_reserved-in-loop.new.self.items ≡ set xs 0 next ++ seat ∷ [] = search rules in
+    record {
+      long = search rules;
+      room = search rules;
+      seated = subst (Seated bus about.job about.keeps 0 (c.loop.counter + 1)) (sym e)
+          (seated_more bus about.job about.keeps c.loop.counter xs root next seat c.loop.invariant.long (search rules) c.loop.invariant.seated c.index_mut.ensures.value c.seat-seat.ensures.own c.seat-seat.ensures.views);
+    }
