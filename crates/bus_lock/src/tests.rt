@@ -1,8 +1,10 @@
 //! Two cores that meet their bus on one thread.
-ghost use Rattle.std.specs.Prelude.{◌≡◌, ◌≤◌, ◌<◌, ◌^◌, [], IfOk, length, true};
+ghost use Rattle.std.specs.Prelude.{◌≡◌, ℕ, ◌≤◌, ◌<◌, ◌^◌, [], IfOk, length, true};
 ghost use Rattle.std.specs.List.{All};
 ghost use Rattle.pmsi_model.specs.declared.limits.TheConstants.{MAX_TEXT_WORDS};
+ghost use Rattle.pmsi_model.specs.Job.{JobValue};
 ghost use Rattle.pmsi_model.specs.Parts.{IsBusPart};
+ghost use Rattle.core_unit.specs.Parts.{IsPartAfter};
 ghost use Rattle.bus_lock.specs.Answers.{IsIn};
 ghost use Rattle.bus_lock.specs.Seats.{IsSeat, view_of};
 
@@ -45,6 +47,16 @@ fn both_write(rt: &impl Abort, alloc: Global) -> Result<Job, NoMemory>
     Ok(Job::new(shape, WordLists::from_vec(texts), Bytes::from_vec(start)))
 }
 
+/// The phase of a core, unless it is done.
+fn ready(core: &mut Core)
+    requires { core.old.slot < core.old.shape.slots }
+    ensures { (job : JobValue) (slot c : ℕ) → slot < job.shape.slots → IsIn job slot c core.old → IsPartAfter job slot c core.new }
+{
+    if !core.phase_done() {
+        core.phase();
+    }
+}
+
 /// A core's phase, where it isn't done, and one try of it to meet the bus.
 fn tries(
     rt: &impl Abort,
@@ -62,9 +74,7 @@ fn tries(
     ensures core { IsIn job.now (view_of seat.new).count c core.new }
 {
     assert!(rt; core.slot() < core.shape().slots);
-    if !core.phase_done() {
-        core.phase();
-    }
+    ready(core);
     bus.try_meet(seat, core)
 }
 

@@ -16,7 +16,7 @@ opened_seats : (g : Over) (c : After-parted g) → AreSeats c.in_ok-shared.share
 opened_seats g c = subst (λ (k : Bool). AreSeats c.in_ok-shared.shared c.args.job.now k 0 c.in_ok-shared.seats.items) (keeps_told g c) (search rules)
 
 pub work_groups-requires-clause-members : goal.work_groups-requires-clause-members
-work_groups-requires-clause-members g c =
+work_groups-requires-clause-members g c κs within =
     let told : c.in_ok-bus.bus.keeps ≡ c.args.keep.trace = search rules in
     begin c.in_ok-shared.shared c.args.job.now c.args.keep c.deref_mut.result.now c.in_ok-cores.cores.items c.in_ok-shared.seats.items (search rules) (search rules) (search rules)
     (subst (λ (k : Bool). AreSeats c.in_ok-shared.shared c.args.job.now k 0 c.in_ok-shared.seats.items) told (search rules))
