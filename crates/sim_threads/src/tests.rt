@@ -10,8 +10,10 @@ use pmsi_outside::Gate;
 use sim_serial::Sim;
 use std::alloc::{AllocError, Global};
 use std::process::Abort;
+use std::sync::Wait;
 use std::sync::atomic::{AtomicU64, Ordering};
 use std::test::Fail;
+use std::thread::Threads;
 
 /// Words of texts: `lw x6, 0(x0)`, `lw x5, 16(x0)`, `sw x10, 0(x0)`, `sw x11, 16(x0)`, `sw x5, 32(x0)`,
 /// `amoadd.w x5, x11, (x0)`, `addi x5, x0, 7`, and a jump back to the word before.
@@ -27,6 +29,7 @@ const PARTS: [u32; 8] = [
 ];
 
 /// Numbers that follow from a seed.
+#[derive(Drop)]
 struct Dice {
     state: u64,
 }
@@ -46,6 +49,7 @@ impl Dice {
 }
 
 /// A gate that counts the phases that it is told of.
+#[derive(Drop)]
 struct Counter {
     phases: AtomicU64,
 }
@@ -135,7 +139,12 @@ fn some_shape(dice: &mut Dice) -> Geometry {
 }
 
 /// A run on threads comes to what the run on one comes to, and the gate is told of each phase.
-fn runs_alike(rt: &HostRuntime, job: &Job, workers: u32) -> Result<(), Fail> {
+fn runs_alike<R: Abort + Threads + Wait + Sync>(
+    rt: &R,
+    alloc: Global,
+    job: &Job,
+    workers: u32,
+) -> Result<(), Fail> {
     let keep = Keep {
         trace: true,
         touches: true,
@@ -143,12 +152,12 @@ fn runs_alike(rt: &HostRuntime, job: &Job, workers: u32) -> Result<(), Fail> {
     let shape = job.shape();
     assert!(rt; shape.slots <= 250 && shape.cores <= 16 && shape.quantum <= 6);
     assert!(rt; 1 <= workers && workers <= 16);
-    let mut sim = Sim::open(rt.alloc(), job, keep)?;
+    let mut sim = Sim::open(alloc, job, keep)?;
     sim.run();
     let gate = Counter {
         phases: AtomicU64::new(0),
     };
-    let threaded = run_threads(rt, rt.alloc(), job, keep, workers, &gate)?;
+    let threaded = run_threads(rt, alloc, job, keep, workers, &gate)?;
     same(rt, &sim, &threaded);
     assert_eq!(rt;
         gate.phases.load(Ordering::SeqCst),
@@ -164,7 +173,7 @@ fn threads_reach_the_machine_of_one(rt: HostRuntime) -> Result<(), Fail> {
         let shape = some_shape(&mut dice);
         let texts = texts(rt.alloc(), &mut dice, shape.cores)?;
         let job = job(&rt, rt.alloc(), shape, texts)?;
-        runs_alike(&rt, &job, 1 + dice.below(4))?;
+        runs_alike(&rt, rt.alloc(), &job, 1 + dice.below(4))?;
     }
     Ok(())
 }
