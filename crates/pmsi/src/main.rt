@@ -1,8 +1,9 @@
-//! The program: its words, the files of the disk and the standard streams go to `tool`, and it ends with the status number.
+//! The program: its words, the files of the disk and the standard streams go to `tool_threads` where the first word is `sim`,
+//! else to `tool`, and it ends with the status number.
 #![tactic(auto)]
 
-use pmsi_outside::{DiskFiles, StdSink};
-use pmsi_tool::{ToolStatus, tell_no_memory, tool};
+use pmsi_outside::{DiskFiles, OpenGate, StdSink};
+use pmsi_tool::{ToolStatus, tell_no_memory, tool, tool_threads};
 use std::alloc::AllocError;
 use std::env;
 use std::process::ExitCode;
@@ -19,15 +20,24 @@ fn words(rt: &HostRuntime) -> Result<Vec<String>, AllocError> {
     Ok(words)
 }
 
+/// The call that serves the words, on the real files and streams.
+fn call(rt: &HostRuntime, words: &[String]) -> ToolStatus {
+    let alloc = rt.alloc();
+    let mut files = DiskFiles::new(rt);
+    let mut out = StdSink::new(rt.stdout());
+    let mut err = StdSink::new(rt.stderr());
+    match words.first() {
+        Some(word) if word.as_str() == "sim" => {
+            let gate = OpenGate::new();
+            tool_threads(rt, alloc, words, &mut files, &mut out, &mut err, &gate)
+        }
+        _ => tool(alloc, words, &mut files, &mut out, &mut err),
+    }
+}
+
 fn run(rt: &HostRuntime) -> ToolStatus {
     match words(rt) {
-        Ok(words) => tool(
-            rt.alloc(),
-            &words,
-            &mut DiskFiles::new(rt),
-            &mut StdSink::new(rt.stdout()),
-            &mut StdSink::new(rt.stderr()),
-        ),
+        Ok(words) => call(rt, &words),
         Err(AllocError) => tell_no_memory(&mut StdSink::new(rt.stderr())),
     }
 }

@@ -1,6 +1,6 @@
--- What the words of a call and its files give: a result, a refusal, or a file that can't be read. The bytes of the files are
+-- What the words and the files of a call give: a result, a refusal, or a file that can't be read. The bytes of the files are
 -- those that were read, in the order in which the command opens them; where contents are told, they are these.
-use Rattle.std.specs.Prelude.{◌≡◌, ℕ, ◌≤◌, ⊤, List, [], Option, Some, None}
+use Rattle.std.specs.Prelude.{◌≡◌, ℕ, ◌≤◌, ⊤, List, [], Option, Some, None, false}
 use Rattle.pmsi_model.specs.declared.Keep.{Keep}
 use Rattle.pmsi_model.specs.Job.{JobValue}
 use Rattle.pmsi_model.specs.Run.{machine_at}
@@ -10,7 +10,7 @@ use Rattle.pmsi_model.specs.Latest.{ReadsLatestWrite}
 use Rattle.pmsi_model.specs.Waiting.{WaitsAreBounded}
 use Rattle.pmsi_outside.specs.Causes.{Rose}
 use Rattle.pmsi_outside.specs.Files.{Contents}
-use Rattle.tool_words.specs.Meaning.{AskedValue, meaning, run}
+use Rattle.tool_words.specs.Meaning.{AskedValue, run, sim, asm, dis, image, meaning}
 use Rattle.tool_files.specs.declared.refusal.Detail.{Detail}
 use Rattle.tool_files.specs.declared.refusal.Place.{Place}
 use Rattle.tool_files.specs.declared.refusal.Stop.{Stop}
@@ -20,6 +20,7 @@ use Rattle.tool_files.specs.Ordered.{Helds, Follows, Opens, IsResultOf, IsRefuse
 use Rattle.tool_files.specs.Stops.{FilesCall, Stops}
 use Rattle.pmsi_tool.specs.declared.complaint.Complaint.{Complaint}
 use Rattle.pmsi_tool.specs.declared.complaint.Complaint.TheVariants.{Usage, Stopped}
+use Rattle.pmsi_tool.specs.Calls.{Call, meaning_for, serves}
 
 -- ---- the machine of a job
 
@@ -37,35 +38,38 @@ pub record IsRun (contents : Option Contents) (keep : Keep) (name text : List �
   pub listing : text ≡ listing_of job keep
   pub faithful : IsFaithful job
 
--- where a job is run
+-- where a job is run, on one thread or on several
 abbrev pub RunsFaithfully : Option Contents → AskedValue → List ℕ → Type 0
 RunsFaithfully contents (run keep name) text = IsRun contents keep name text
-RunsFaithfully contents asked text = ⊤
+RunsFaithfully contents (sim workers keep name) text = IsRun contents keep name text
+RunsFaithfully contents (asm name) text = ⊤
+RunsFaithfully contents (dis name) text = ⊤
+RunsFaithfully contents (image name) text = ⊤
 
 -- ---- answers
 
--- the words ask for something, of which the text is the result on these bytes of its files; a machine that is run is faithful
-pub record Gives (words : List (List ℕ)) (contents : Option Contents) (text : List ℕ) : Type 0 where
+-- the words ask something of the call, and the text is its result on these bytes of its files; a machine that is run is faithful
+pub record Gives (call : Call) (words : List (List ℕ)) (contents : Option Contents) (text : List ℕ) : Type 0 where
   pub asked : AskedValue
-  pub means : meaning words ≡ Some asked
+  pub means : meaning_for call words ≡ Some asked
   pub helds : Helds
   pub follows : Follows contents asked [] helds
   pub is_result : IsResultOf asked helds text
   pub faithful : RunsFaithfully contents asked text
 
--- the words ask for something that is refused on these bytes of its files
-pub record Refuses (words : List (List ℕ)) (contents : Option Contents) (place : Place) (detail : Detail) : Type 0 where
+-- the words ask something of the call that is refused on these bytes of its files
+pub record Refuses (call : Call) (words : List (List ℕ)) (contents : Option Contents) (place : Place) (detail : Detail) : Type 0 where
   pub asked : AskedValue
-  pub means : meaning words ≡ Some asked
+  pub means : meaning_for call words ≡ Some asked
   pub helds : Helds
   pub follows : Follows contents asked [] helds
   pub is_refused : IsRefused asked helds place detail
 
--- the words ask for something that opens a name behind files of these bytes; the count of the files' faults rose, and this name
--- is blamed
-pub record IsUnread (words : List (List ℕ)) (files : FilesCall) : Type 0 where
+-- the words ask something of the call that opens a name behind files of these bytes; the count of the files' faults rose, and
+-- this name is blamed
+pub record IsUnread (call : Call) (words : List (List ℕ)) (files : FilesCall) : Type 0 where
   pub asked : AskedValue
-  pub means : meaning words ≡ Some asked
+  pub means : meaning_for call words ≡ Some asked
   pub helds : Helds
   pub follows : Follows files.contents asked [] helds
   pub name : List ℕ
@@ -74,11 +78,11 @@ pub record IsUnread (words : List (List ℕ)) (files : FilesCall) : Type 0 where
   pub blame : files.blamed ≡ Some name
 
 -- the cause of a complaint stands; want of memory needs none
-abbrev pub Stands : List (List ℕ) → FilesCall → Complaint → Type 0
-Stands words files Usage = meaning words ≡ None
-Stands words files (Stopped ReadFault) = IsUnread words files
-Stands words files (Stopped (Refused place detail)) = Refuses words files.contents place detail
-Stands words files (Stopped NoMemory) = ⊤
+abbrev pub Stands : Call → List (List ℕ) → FilesCall → Complaint → Type 0
+Stands call words files Usage = meaning_for call words ≡ None
+Stands call words files (Stopped ReadFault) = IsUnread call words files
+Stands call words files (Stopped (Refused place detail)) = Refuses call words files.contents place detail
+Stands call words files (Stopped NoMemory) = ⊤
 
 -- ---- in terms of courses
 
@@ -90,3 +94,13 @@ pub record GivesText (contents : Option Contents) (asked : AskedValue) (text : L
 -- why what is asked for comes to no result
 abbrev pub StopsOn : AskedValue → FilesCall → Stop → Type 0
 StopsOn asked files stop = Stops (Comes files.contents asked) files stop
+
+-- why a call gives no result of what is asked for
+abbrev pub ComplainsOn : Call → AskedValue → FilesCall → Complaint → Type 0
+ComplainsOn call asked files Usage = serves call asked ≡ false
+ComplainsOn call asked files (Stopped stop) = StopsOn asked files stop
+
+-- why words by themselves ask for nothing that can be done
+abbrev pub IsUnasked : List (List ℕ) → Complaint → Type 0
+IsUnasked words Usage = meaning words ≡ None
+IsUnasked words (Stopped stop) = stop ≡ NoMemory

@@ -1,3 +1,4 @@
 pub mod Lines
+pub mod Calls
 pub mod Answers
 pub mod Statuses

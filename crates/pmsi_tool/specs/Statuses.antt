@@ -4,7 +4,7 @@ use Rattle.std.specs.Io.KnownBytes.{Appends}
 use Rattle.pmsi_outside.specs.Causes.{Rose}
 use Rattle.pmsi_outside.specs.Files.{Contents}
 use Rattle.pmsi_outside.specs.Sink.{AppendsPart}
-use Rattle.tool_words.specs.Meaning.{AskedValue, meaning}
+use Rattle.tool_words.specs.Meaning.{AskedValue}
 use Rattle.tool_files.specs.declared.refusal.Detail.{Detail}
 use Rattle.tool_files.specs.declared.refusal.Place.{Place}
 use Rattle.tool_files.specs.declared.refusal.Stop.TheVariants as stop
@@ -14,6 +14,7 @@ use Rattle.pmsi_tool.specs.declared.ToolStatus.{ToolStatus}
 use Rattle.pmsi_tool.specs.declared.ToolStatus.TheVariants.{Done, Usage, ReadFault, WriteFault, Refused, NoMemory}
 use Rattle.pmsi_tool.specs.declared.complaint.Complaint.{Complaint}
 use Rattle.pmsi_tool.specs.declared.complaint.Complaint.TheVariants as complaint
+use Rattle.pmsi_tool.specs.Calls.{Call, meaning_for}
 use Rattle.pmsi_tool.specs.Answers.{Gives, Refuses, IsUnread, Stands}
 use Rattle.pmsi_tool.specs.Lines.{line_of, usage_line, read_fault_line, refused_line, write_fault_line}
 
@@ -60,51 +61,51 @@ IsTold status sink said = TellsLine (status_of said) status sink (line_of said)
 -- ---- the clauses of a call, by its status
 
 -- there is a result, and `out` has it
-abbrev pub IsDone : List (List ℕ) → Option Contents → SinkCall → Type 0
-IsDone words contents out = (text : List ℕ) × Gives words contents text × GrowsBy out text
+abbrev pub IsDone : Call → List (List ℕ) → Option Contents → SinkCall → Type 0
+IsDone call words contents out = (text : List ℕ) × Gives call words contents text × GrowsBy out text
 
--- the words ask for nothing, and that is told
-abbrev pub IsUsage : List (List ℕ) → SinkCall → Type 0
-IsUsage words err = (meaning words ≡ None) × GrowsBy err usage_line
+-- the words ask nothing of the call, and that is told
+abbrev pub IsUsage : Call → List (List ℕ) → SinkCall → Type 0
+IsUsage call words err = (meaning_for call words ≡ None) × GrowsBy err usage_line
 
 -- a file couldn't be read, and that is told
-abbrev pub ReadFails : List (List ℕ) → FilesCall → SinkCall → Type 0
-ReadFails words files err = IsUnread words files × GrowsBy err read_fault_line
+abbrev pub ReadFails : Call → List (List ℕ) → FilesCall → SinkCall → Type 0
+ReadFails call words files err = IsUnread call words files × GrowsBy err read_fault_line
 
 -- the files are refused, and why is told
-abbrev pub IsRefusal : List (List ℕ) → Option Contents → SinkCall → Type 0
-IsRefusal words contents err =
-    (place : Place) × (detail : Detail) × Refuses words contents place detail × GrowsBy err (refused_line place detail)
+abbrev pub IsRefusal : Call → List (List ℕ) → Option Contents → SinkCall → Type 0
+IsRefusal call words contents err =
+    (place : Place) × (detail : Detail) × Refuses call words contents place detail × GrowsBy err (refused_line place detail)
 
 -- there is a result, and `out` failed in it
-pub record OutFails (words : List (List ℕ)) (contents : Option Contents) (out err : SinkCall) : Type 0 where
+pub record OutFails (call : Call) (words : List (List ℕ)) (contents : Option Contents) (out err : SinkCall) : Type 0 where
   pub text : List ℕ
-  pub gives : Gives words contents text
+  pub gives : Gives call words contents text
   pub failed : FailsIn out text
   pub told : LeavesFront err write_fault_line
 
 -- a complaint has its cause, and `err` failed in its line
-pub record ErrFails (words : List (List ℕ)) (files : FilesCall) (err : SinkCall) : Type 0 where
+pub record ErrFails (call : Call) (words : List (List ℕ)) (files : FilesCall) (err : SinkCall) : Type 0 where
   pub complaint : Complaint
-  pub stands : Stands words files complaint
+  pub stands : Stands call words files complaint
   pub failed : FailsIn err (line_of complaint)
 
--- where contents are told, these are bytes of the files of what the words ask for
-pub record Holds (words : List (List ℕ)) (contents : Option Contents) (asked : AskedValue) (helds : Helds) : Type 0 where
-  pub means : meaning words ≡ Some asked
+-- where contents are told, these are bytes of the files of what the words ask of the call
+pub record Holds (call : Call) (words : List (List ℕ)) (contents : Option Contents) (asked : AskedValue) (helds : Helds) : Type 0 where
+  pub means : meaning_for call words ≡ Some asked
   pub told : IsSome contents
   pub follows : Follows contents asked [] helds
 
 -- accepted files are never refused: what they come to is written, unless something fails or memory runs out
-abbrev pub TakesAccepted : List (List ℕ) → Option Contents → SinkCall → ToolStatus → Type 0
-TakesAccepted words contents out status =
-    (asked : AskedValue) (helds : Helds) (text : List ℕ) → Holds words contents asked helds → IsResultOf asked helds text
+abbrev pub TakesAccepted : Call → List (List ℕ) → Option Contents → SinkCall → ToolStatus → Type 0
+TakesAccepted call words contents out status =
+    (asked : AskedValue) (helds : Helds) (text : List ℕ) → Holds call words contents asked helds → IsResultOf asked helds text
     → ((status ≡ Done) × GrowsBy out text) ⊎ ((status ≡ NoMemory) ⊎ ((status ≡ ReadFault) ⊎ (status ≡ WriteFault)))
 
 -- where a refusal has its cause and nothing fails, it comes
-abbrev pub RefusesAlways : List (List ℕ) → FilesCall → SinkCall → SinkCall → ToolStatus → Type 0
-RefusesAlways words files out err status =
-    (asked : AskedValue) (helds : Helds) (place : Place) (detail : Detail) → Holds words files.contents asked helds
+abbrev pub RefusesAlways : Call → List (List ℕ) → FilesCall → SinkCall → SinkCall → ToolStatus → Type 0
+RefusesAlways call words files out err status =
+    (asked : AskedValue) (helds : Helds) (place : Place) (detail : Detail) → Holds call words files.contents asked helds
     → IsRefused asked helds place detail
     → (Rose files.before files.now → ⊥) → (Rose out.before out.now → ⊥) → (Rose err.before err.now → ⊥)
     → ((status ≡ Refused) × GrowsBy err (refused_line place detail)) ⊎ (status ≡ NoMemory)

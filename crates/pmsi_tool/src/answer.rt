@@ -1,11 +1,13 @@
-//! The answer to a call, before anything is written.
-ghost use Rattle.std.specs.Prelude.{◌≡◌, List, map, string_bytes, IfOk, IfErr};
+//! The answer to a call of `tool`, before anything is written, and what both calls share of theirs.
+ghost use Rattle.std.specs.Prelude.{◌≡◌, true, Some, List, map, string_bytes, IfOk, IfErr};
 ghost use Rattle.pmsi_model.specs.Geometry.{CanKeep};
 ghost use Rattle.pmsi_model.specs.Listing.{listing_of};
 ghost use Rattle.image_file.specs.Format.{image_bytes};
-ghost use Rattle.tool_words.specs.Meaning.{AskedValue, run, asm, dis, image, value_of};
+ghost use Rattle.sim_serial.specs.Sims.{IsSimOf, Keeps};
+ghost use Rattle.tool_words.specs.Meaning.{AskedValue, HasWorkers, run, asm, dis, image, meaning, value_of};
 ghost use Rattle.tool_files.specs.Stops.{files_call};
-ghost use Rattle.pmsi_tool.specs.Answers.{Gives, GivesText, Stands, StopsOn};
+ghost use Rattle.pmsi_tool.specs.Calls.{serves, tool_call};
+ghost use Rattle.pmsi_tool.specs.Answers.{ComplainsOn, Gives, GivesText, IsUnasked, Stands, StopsOn};
 
 use crate::complaint::Complaint;
 use asm_print::listing_of;
@@ -18,42 +20,52 @@ use std::alloc::Global;
 use tool_files::{Place, Stop, read_image_file, read_job, read_source};
 use tool_words::{Asked, asked_of};
 
+/// What the words ask for.
+pub(crate) fn asked_in(alloc: Global, words: &[String]) -> Result<Asked<'_>, Complaint>
+    ensures asked { IfOk result (λ asked. meaning (map string_bytes words.now) ≡ Some (value_of asked)) }
+    ensures workers { IfOk result HasWorkers }
+    ensures complaint { IfErr result (IsUnasked (map string_bytes words.now)) }
+{
+    match asked_of(alloc, words) {
+        Ok(Some(asked)) => Ok(asked),
+        Ok(None) => Err(Complaint::Usage),
+        Err(NoMemory) => Err(Complaint::Stopped(Stop::NoMemory)),
+    }
+}
+
 /// The result of what the words ask for, or what is to be told.
 pub(crate) fn answer_of<F: Files>(
     alloc: Global,
     words: &[String],
     files: &mut F,
 ) -> Result<Vec<u8>, Complaint>
-    ensures text { IfOk result (λ text. Gives (map string_bytes words.now) (F.contents files.old) text.items) }
-    ensures complaint { IfErr result (Stands (map string_bytes words.now)
+    ensures text { IfOk result (λ text. Gives tool_call (map string_bytes words.now) (F.contents files.old) text.items) }
+    ensures complaint { IfErr result (Stands tool_call (map string_bytes words.now)
         (files_call (F.contents files.old) (F.faults files.old) (F.faults files.new) (F.blamed files.new))) }
     ensures contents { F.contents files.new ≡ F.contents files.old }
 {
-    let Ok(asked) = asked_of(alloc, words) else {
-        return Err(Complaint::Stopped(Stop::NoMemory));
-    };
-    let Some(asked) = asked else {
-        return Err(Complaint::Usage);
-    };
-    Ok(result_of(alloc, asked, files)?)
+    let asked = asked_in(alloc, words)?;
+    result_of(alloc, asked, files)
 }
 
-/// The result of a command.
-fn result_of<F: Files>(alloc: Global, asked: Asked<'_>, files: &mut F) -> Result<Vec<u8>, Stop>
+/// The result of a command that is served on one thread.
+fn result_of<F: Files>(alloc: Global, asked: Asked<'_>, files: &mut F) -> Result<Vec<u8>, Complaint>
+    ensures served { IfOk result (λ _. serves tool_call (value_of asked.entry) ≡ true) }
     ensures text { IfOk result (λ text. GivesText (F.contents files.old) (value_of asked.entry) text.items) }
-    ensures stop { IfErr result (StopsOn (value_of asked.entry)
+    ensures complaint { IfErr result (ComplainsOn tool_call (value_of asked.entry)
         (files_call (F.contents files.old) (F.faults files.old) (F.faults files.new) (F.blamed files.new))) }
     ensures contents { F.contents files.new ≡ F.contents files.old }
 {
     match asked {
         Asked::Run { keep, job } => Ok(run(alloc, files, keep, job)?),
+        Asked::Sim { .. } => Err(Complaint::Usage),
         Asked::Asm(source) => Ok(assembled(alloc, files, source)?),
         Asked::Dis(image) => Ok(disassembled(alloc, files, image)?),
         Asked::Image(image) => Ok(checked(alloc, files, image)?),
     }
 }
 
-/// The listing of a job's run.
+/// The listing of a job's run on one thread.
 fn run<F: Files>(alloc: Global, files: &mut F, keep: Keep, name: &str) -> Result<Vec<u8>, Stop>
     ensures text { IfOk result (λ text. GivesText (F.contents files.old) (run keep name.now) text.items) }
     ensures stop { IfErr result (StopsOn (run keep name.now)
@@ -61,17 +73,28 @@ fn run<F: Files>(alloc: Global, files: &mut F, keep: Keep, name: &str) -> Result
     ensures contents { F.contents files.new ≡ F.contents files.old }
 {
     let job = read_job(alloc, files, keep, name)?;
-    Ok(listed(alloc, &job, keep)?)
+    let sim = run_serially(alloc, &job, keep)?;
+    Ok(listed(alloc, &job, &sim, keep)?)
 }
 
-/// The listing of the machine of a job at the end of its run.
-fn listed(alloc: Global, job: &Job, keep: Keep) -> Result<Vec<u8>, NoMemory>
+/// The machine of a job after its last slot.
+fn run_serially(alloc: Global, job: &Job, keep: Keep) -> Result<Sim, NoMemory>
     requires { CanKeep keep job.now.shape }
-    ensures { IfOk result (λ text. text.items ≡ listing_of job.now keep) }
+    ensures machine { IfOk result (λ sim. IsSimOf job.now job.now.shape.slots sim) }
+    ensures keeps { IfOk result (λ sim. Keeps keep sim) }
 {
     let mut sim = Sim::open(alloc, job, keep)?;
     sim.run();
-    listing(alloc, &sim, keep)
+    Ok(sim)
+}
+
+/// The listing of the machine of a job after its last slot.
+pub(crate) fn listed(alloc: Global, _job: &Job, sim: &Sim, keep: Keep) -> Result<Vec<u8>, NoMemory>
+    requires machine { IsSimOf _job.now _job.now.shape.slots sim.now }
+    requires keeps { Keeps keep sim.now }
+    ensures { IfOk result (λ text. text.items ≡ listing_of _job.now keep) }
+{
+    listing(alloc, sim, keep)
 }
 
 /// The bytes of the image of a source.

@@ -12,7 +12,7 @@ use Rattle.job_text.specs.declared.plan.JobPlan.{JobPlan}
 use Rattle.job_text.specs.declared.plan.Program.{Program}
 use Rattle.job_text.specs.declared.plan.Program.TheVariants.{Words, Asm, Image}
 use Rattle.job_text.specs.Plans.{IsPlanOf}
-use Rattle.tool_words.specs.Meaning.{AskedValue, run, asm, dis, image}
+use Rattle.tool_words.specs.Meaning.{AskedValue, run, sim, asm, dis, image}
 use Rattle.tool_files.specs.declared.refusal.Place.{Place}
 use Rattle.tool_files.specs.declared.refusal.Place.TheVariants.{Input, Core}
 use Rattle.tool_files.specs.declared.refusal.Detail.{Detail}
@@ -117,6 +117,7 @@ module _ {V : Type 0} (contents : Option Contents) where
 -- a row a command
 agree_for : (contents : Option Contents) (asked : AskedValue) → Agree contents (IsNext contents asked) (IsNext None asked)
 agree_for contents (run keep name) = job_agree contents keep name (λ j. last (listing_of j keep)) (λ j. last (listing_of j keep)) (λ j. last_agree contents (listing_of j keep))
+agree_for contents (sim workers keep name) = job_agree contents keep name (λ j. last (listing_of j keep)) (λ j. last (listing_of j keep)) (λ j. last_agree contents (listing_of j keep))
 agree_for contents (asm name) = kind_agree contents Input name IsSource SourceFails (λ i. last (image_bytes i)) (λ i. last (image_bytes i)) source_settled (λ i. last_agree contents (image_bytes i))
 agree_for contents (dis name) = kind_agree contents Input name IsImageFile ImageFails (λ i. last (listing_text i)) (λ i. last (listing_text i)) image_settled (λ i. last_agree contents (listing_text i))
 agree_for contents (image name) = kind_agree contents Input name IsImageFile ImageFails (λ i. last (image_bytes i)) (λ i. last (image_bytes i)) image_settled (λ i. last_agree contents (image_bytes i))

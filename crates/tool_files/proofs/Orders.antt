@@ -15,7 +15,7 @@ use Rattle.job_text.specs.declared.plan.JobPlan.{JobPlan}
 use Rattle.job_text.specs.declared.plan.Program.{Program}
 use Rattle.job_text.specs.declared.plan.Program.TheVariants.{Words, Asm, Image}
 use Rattle.job_text.specs.Plans.{IsPlanOf}
-use Rattle.tool_words.specs.Meaning.{AskedValue, run, asm, dis, image}
+use Rattle.tool_words.specs.Meaning.{AskedValue, run, sim, asm, dis, image}
 use Rattle.tool_files.specs.declared.refusal.Place.{Place}
 use Rattle.tool_files.specs.declared.refusal.Place.TheVariants.{Input, Core}
 use Rattle.tool_files.specs.declared.refusal.Detail.{Detail}
@@ -78,6 +78,7 @@ module _ {V : Type 0} where
 -- a row a command
 pub one_next : OneNext
 one_next contents (run keep name) = job_only contents keep name (λ j. last (listing_of j keep)) (λ j. last_only (listing_of j keep))
+one_next contents (sim workers keep name) = job_only contents keep name (λ j. last (listing_of j keep)) (λ j. last_only (listing_of j keep))
 one_next contents (asm name) = source_only contents Input name (λ i. last (image_bytes i)) (λ i. last_only (image_bytes i))
 one_next contents (dis name) = image_only contents Input name (λ i. last (listing_text i)) (λ i. last_only (listing_text i))
 one_next contents (image name) = image_only contents Input name (λ i. last (image_bytes i)) (λ i. last_only (image_bytes i))
@@ -165,6 +166,7 @@ module _ {V : Type 0} where
 -- a row a command
 whole_for : (asked : AskedValue) → Whole (IsNext None asked)
 whole_for (run keep name) = job_whole keep name (λ j. last (listing_of j keep)) (λ j. last_whole (listing_of j keep))
+whole_for (sim workers keep name) = job_whole keep name (λ j. last (listing_of j keep)) (λ j. last_whole (listing_of j keep))
 whole_for (asm name) = source_whole Input name (λ i. last (image_bytes i)) (λ i. last_whole (image_bytes i))
 whole_for (dis name) = image_whole Input name (λ i. last (listing_text i)) (λ i. last_whole (listing_text i))
 whole_for (image name) = image_whole Input name (λ i. last (image_bytes i)) (λ i. last_whole (image_bytes i))

@@ -12,7 +12,7 @@ use Rattle.job_text.specs.declared.plan.JobPlan.{JobPlan}
 use Rattle.job_text.specs.declared.plan.Program.{Program}
 use Rattle.job_text.specs.declared.plan.Program.TheVariants.{Words, Asm, Image}
 use Rattle.job_text.specs.Plans.{IsPlanOf}
-use Rattle.tool_words.specs.Meaning.{AskedValue, run, asm, dis, image}
+use Rattle.tool_words.specs.Meaning.{AskedValue, run, sim, asm, dis, image}
 use Rattle.tool_files.specs.declared.refusal.Place.{Place}
 use Rattle.tool_files.specs.declared.refusal.Place.TheVariants.{Input, Core}
 use Rattle.tool_files.specs.declared.refusal.Detail.{Detail}
@@ -83,6 +83,7 @@ module _ {V : Type 0} (contents : Option Contents) where
 -- a row a command
 same_for : (contents : Option Contents) (asked : AskedValue) → Same (Comes contents asked) (IsNext contents asked)
 same_for contents (run keep name) = job_same contents keep name (λ j. ends (listing_of j keep)) (λ j. last (listing_of j keep)) (λ j. last_same (listing_of j keep))
+same_for contents (sim workers keep name) = job_same contents keep name (λ j. ends (listing_of j keep)) (λ j. last (listing_of j keep)) (λ j. last_same (listing_of j keep))
 same_for contents (asm name) = kind_same contents Input name IsSource SourceFails (λ i. ends (image_bytes i)) (λ i. last (image_bytes i)) (λ i. last_same (image_bytes i))
 same_for contents (dis name) = kind_same contents Input name IsImageFile ImageFails (λ i. ends (listing_text i)) (λ i. last (listing_text i)) (λ i. last_same (listing_text i))
 same_for contents (image name) = kind_same contents Input name IsImageFile ImageFails (λ i. ends (image_bytes i)) (λ i. last (image_bytes i)) (λ i. last_same (image_bytes i))

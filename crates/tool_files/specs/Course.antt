@@ -13,7 +13,7 @@ use Rattle.job_text.specs.declared.plan.JobPlan.{JobPlan}
 use Rattle.job_text.specs.declared.plan.Program.{Program}
 use Rattle.job_text.specs.declared.plan.Program.TheVariants.{Words, Asm, Image}
 use Rattle.job_text.specs.Plans.{IsPlanOf}
-use Rattle.tool_words.specs.Meaning.{AskedValue, run, asm, dis, image}
+use Rattle.tool_words.specs.Meaning.{AskedValue, run, sim, asm, dis, image}
 use Rattle.tool_files.specs.declared.refusal.Place.{Place}
 use Rattle.tool_files.specs.declared.refusal.Place.TheVariants.{Input, Core}
 use Rattle.tool_files.specs.declared.refusal.Detail.{Detail}
@@ -84,6 +84,7 @@ job_file contents keep name then = plan_file contents name (planned contents kee
 
 abbrev pub Comes : Option Contents → AskedValue → Step (List ℕ) → Type 0
 Comes contents (run keep name) = job_file contents keep name (λ j. ends (listing_of j keep))
+Comes contents (sim workers keep name) = job_file contents keep name (λ j. ends (listing_of j keep))
 Comes contents (asm name) = source_file contents Input name (λ i. ends (image_bytes i))
 Comes contents (dis name) = image_file contents Input name (λ i. ends (listing_text i))
 Comes contents (image name) = image_file contents Input name (λ i. ends (image_bytes i))

@@ -13,7 +13,7 @@ use Rattle.job_text.specs.declared.plan.JobPlan.{JobPlan}
 use Rattle.job_text.specs.declared.plan.Program.{Program}
 use Rattle.job_text.specs.declared.plan.Program.TheVariants.{Words, Asm, Image}
 use Rattle.job_text.specs.Plans.{IsPlanOf}
-use Rattle.tool_words.specs.Meaning.{AskedValue, run, asm, dis, image}
+use Rattle.tool_words.specs.Meaning.{AskedValue, run, sim, asm, dis, image}
 use Rattle.tool_files.specs.declared.refusal.Place.{Place}
 use Rattle.tool_files.specs.declared.refusal.Place.TheVariants.{Input, Core}
 use Rattle.tool_files.specs.declared.refusal.Detail.{Detail}
@@ -71,6 +71,7 @@ next_job contents keep name then =
 -- files of these contents, read in the order of opening, gave these bytes, and then this comes
 abbrev pub IsNext : Option Contents → AskedValue → Helds → Step (List ℕ) → Type 0
 IsNext contents (run keep name) = next_job contents keep name (λ j. last (listing_of j keep))
+IsNext contents (sim workers keep name) = next_job contents keep name (λ j. last (listing_of j keep))
 IsNext contents (asm name) = next_source contents Input name (λ i. last (image_bytes i))
 IsNext contents (dis name) = next_image contents Input name (λ i. last (listing_text i))
 IsNext contents (image name) = next_image contents Input name (λ i. last (image_bytes i))

@@ -3,10 +3,10 @@ use Rattle.std.specs.Prelude.{◌≡◌, is_some, List, [], ◌∷◌, ◌++◌,
 use Rattle.clap.specs.Words.{Text}
 use Rattle.tool_words.specs.declared.table.Command.{Command}
 use Rattle.tool_words.specs.declared.table.Choice.{Choice}
-use Rattle.tool_words.specs.declared.table.Choice.TheVariants.{Trace, Touches}
+use Rattle.tool_words.specs.declared.table.Choice.TheVariants.{Workers, Trace, Touches}
 use Rattle.tool_words.specs.declared.table.Place.{Place}
 use Rattle.tool_words.specs.Table.{word_of, choice_id, choices_of, places_of}
-use Rattle.tool_words.specs.Meaning.{answer_of, meaning, values_in}
+use Rattle.tool_words.specs.Meaning.{answer_of, meaning, values_in, workers_of}
 
 -- an option that is given stands as two words
 abbrev pub with_choice : Choice → Option Text → List Text → List Text
@@ -42,6 +42,7 @@ CanonicalMeansTable = (command : Command) (chosen : Choice → Option Text) (pla
 
 -- the values that an option may have
 abbrev pub is_allowed : Choice → Text → Bool
+is_allowed Workers text = is_some (workers_of text)
 is_allowed Trace text = is_some (answer_of text)
 is_allowed Touches text = is_some (answer_of text)
 

@@ -2,24 +2,26 @@
 use Rattle.std.specs.Prelude.{List, [], ◌∷◌, codes}
 use Rattle.clap.specs.Words.{Text}
 use Rattle.tool_words.specs.declared.table.Command.{Command}
-use Rattle.tool_words.specs.declared.table.Command.TheVariants.{Run, Asm, Dis, Image}
+use Rattle.tool_words.specs.declared.table.Command.TheVariants.{Run, Sim, Asm, Dis, Image}
 use Rattle.tool_words.specs.declared.table.Choice.{Choice}
-use Rattle.tool_words.specs.declared.table.Choice.TheVariants.{Trace, Touches}
+use Rattle.tool_words.specs.declared.table.Choice.TheVariants.{Workers, Trace, Touches}
 use Rattle.tool_words.specs.declared.table.Place.{Place}
 use Rattle.tool_words.specs.declared.table.Place.TheVariants as place
 
 -- the commands, and the first word of each
 abbrev pub commands : List Command
-commands = Run ∷ Asm ∷ Dis ∷ Image ∷ []
+commands = Run ∷ Sim ∷ Asm ∷ Dis ∷ Image ∷ []
 
 abbrev pub word_of : Command → Text
 word_of Run = codes "run"
+word_of Sim = codes "sim"
 word_of Asm = codes "asm"
 word_of Dis = codes "dis"
 word_of Image = codes "image"
 
 -- the name of an option, which is written behind `--`
 abbrev pub choice_id : Choice → Text
+choice_id Workers = codes "workers"
 choice_id Trace = codes "trace"
 choice_id Touches = codes "touches"
 
@@ -31,6 +33,7 @@ place_id place.Image = codes "image"
 -- the options of a command, in order
 abbrev pub choices_of : Command → List Choice
 choices_of Run = Trace ∷ Touches ∷ []
+choices_of Sim = Workers ∷ Trace ∷ Touches ∷ []
 choices_of Asm = []
 choices_of Dis = []
 choices_of Image = []
@@ -38,6 +41,7 @@ choices_of Image = []
 -- the positionals of a command, in order
 abbrev pub places_of : Command → List Place
 places_of Run = place.Job ∷ []
+places_of Sim = place.Job ∷ []
 places_of Asm = place.Source ∷ []
 places_of Dis = place.Image ∷ []
 places_of Image = place.Image ∷ []

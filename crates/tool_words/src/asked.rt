@@ -5,7 +5,16 @@ use pmsi_model::Keep;
 #[derive(Clone, Copy, Debug, PartialEq, Eq)]
 pub enum Asked<'a> {
     /// Simulate the job of this file, and print its listing with what is kept.
-    Run { keep: Keep, job: &'a str },
+    Run {
+        keep: Keep,
+        job: &'a str,
+    },
+    /// The same by so many threads, from 1 to `MAX_WORKERS`.
+    Sim {
+        workers: u32,
+        keep: Keep,
+        job: &'a str,
+    },
     /// Assemble the source of this file.
     Asm(&'a str),
     /// List the image of this file.

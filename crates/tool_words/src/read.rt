@@ -1,13 +1,15 @@
 //! Reading the words of a call.
-ghost use Rattle.std.specs.Prelude.{◌≡◌, ◌≢◌, IfOk, None, false, map, option_map, string_bytes};
+ghost use Rattle.std.specs.Prelude.{◌≡◌, ◌≢◌, ◌≤◌, IfOk, IfSome, None, false, map, option_map, string_bytes};
 ghost use Rattle.clap.specs.Words.{app_of, kind_of, rule_of};
 ghost use Rattle.tool_words.specs.Clap.{IsFoundIn, app_for, choice_rule, chosen, place_rule, placed};
-ghost use Rattle.tool_words.specs.Meaning.{answer_in, keep_in, meaning, value_of, values_in};
+ghost use Rattle.pmsi_model.specs.declared.limits.TheConstants.{MAX_WORKERS};
+ghost use Rattle.tool_words.specs.Meaning.{HasWorkers, answer_in, is_number, keep_in, meaning, number_of, value_of, values_in, workers_in};
 
 use crate::asked::Asked;
-use crate::table::{Choice, Command, Place, command_named};
+use crate::table::{Choice, Command, DEFAULT_WORKERS, Place, command_named};
 use clap::error::ErrorKind;
 use clap::{Arg, ArgAction, ArgMatches, Error};
+use pmsi_model::limits::MAX_WORKERS;
 use pmsi_model::{Keep, NoMemory};
 use std::alloc::{AllocError, Global};
 
@@ -82,6 +84,41 @@ fn answer(text: Option<&str>) -> Option<bool>
     }
 }
 
+/// Whether a text is one to ten decimal digits.
+fn is_number(text: &str) -> bool
+    ensures { result ≡ is_number text.now }
+{
+    let digits = text.as_bytes();
+    !digits.is_empty() && digits.len() <= 10 && digits.iter().all(|byte| byte.is_ascii_digit())
+}
+
+/// Their number, where it is within the range.
+fn number(text: &str, least: u32, most: u32) -> Option<u32>
+    ensures value { result ≡ number_of least most text.now }
+    ensures within { IfSome result (λ number. (least ≤ number) × (number ≤ most)) }
+{
+    if !is_number(text) {
+        return None;
+    }
+    let number = text.parse::<u32>().ok()?;
+    if least <= number && number <= most {
+        Some(number)
+    } else {
+        None
+    }
+}
+
+/// The threads that work.
+fn workers(text: Option<&str>) -> Option<u32>
+    ensures value { result ≡ workers_in (option_map (λ text. text.now) text.entry) }
+    ensures within { IfSome result (λ workers. (1 ≤ workers) × (workers ≤ MAX_WORKERS)) }
+{
+    match text {
+        None => Some(DEFAULT_WORKERS),
+        Some(text) => number(text, 1, MAX_WORKERS),
+    }
+}
+
 fn choice<'a>(found: &ArgMatches<'a>, choice: Choice) -> Option<&'a str>
     ensures { option_map (λ text. text.now) result ≡ chosen found.now choice }
 {
@@ -105,10 +142,12 @@ fn keep(found: &ArgMatches) -> Option<Keep>
 
 /// The values of a command.
 fn values<'a>(command: Command, found: &ArgMatches<'a>) -> Option<Asked<'a>>
-    ensures { option_map value_of result ≡ values_in command (chosen found.now) (placed found.now) }
+    ensures value { option_map value_of result ≡ values_in command (chosen found.now) (placed found.now) }
+    ensures workers { IfSome result HasWorkers }
 {
     match command {
         Command::Run => run(found),
+        Command::Sim => sim(found),
         Command::Asm => Some(Asked::Asm(place(found, Place::Source)?)),
         Command::Dis => Some(Asked::Dis(place(found, Place::Image)?)),
         Command::Image => Some(Asked::Image(place(found, Place::Image)?)),
@@ -123,10 +162,21 @@ fn run<'a>(found: &ArgMatches<'a>) -> Option<Asked<'a>>
     Some(Asked::Run { keep, job })
 }
 
+fn sim<'a>(found: &ArgMatches<'a>) -> Option<Asked<'a>>
+    ensures value { option_map value_of result ≡ values_in Command.Sim (chosen found.now) (placed found.now) }
+    ensures workers { IfSome result HasWorkers }
+{
+    let workers = workers(choice(found, Choice::Workers))?;
+    let keep = keep(found)?;
+    let job = place(found, Place::Job)?;
+    Some(Asked::Sim { workers, keep, job })
+}
+
 /// What the words ask for, the program's name not among them. None where they name no command, where clap refuses them for
-/// another cause than memory, `--help` and `-h` included, and where an option's value is neither `yes` nor `no`.
+/// another cause than memory, `--help` and `-h` included, and where an option's value is none that it may have.
 pub fn asked_of<'a>(alloc: Global, words: &'a [String]) -> Result<Option<Asked<'a>>, NoMemory>
-    ensures { IfOk result (λ asked. option_map value_of asked ≡ meaning (map string_bytes words.now)) }
+    ensures value { IfOk result (λ asked. option_map value_of asked ≡ meaning (map string_bytes words.now)) }
+    ensures workers { IfOk result (λ asked. IfSome asked HasWorkers) }
 {
     let Some(word) = words.first() else {
         return Ok(None);

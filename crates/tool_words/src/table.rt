@@ -3,10 +3,14 @@ ghost use Rattle.std.specs.Prelude.{◌≡◌};
 ghost use Rattle.tool_words.specs.Meaning.{command_of};
 ghost use Rattle.tool_words.specs.Table.{choice_id, choices_of, place_id, places_of, word_of};
 
+/// The threads that simulate a job where the words don't say how many.
+pub const DEFAULT_WORKERS: u32 = 2;
+
 /// A command, which the first word names.
 #[derive(Clone, Copy, Debug, PartialEq, Eq)]
 pub enum Command {
     Run,
+    Sim,
     Asm,
     Dis,
     Image,
@@ -15,6 +19,7 @@ pub enum Command {
 /// An option, which takes one value.
 #[derive(Clone, Copy, Debug, PartialEq, Eq)]
 pub enum Choice {
+    Workers,
     Trace,
     Touches,
 }
@@ -33,6 +38,7 @@ pub(crate) fn command_named(word: &str) -> Option<Command>
 {
     match word {
         "run" => Some(Command::Run),
+        "sim" => Some(Command::Sim),
         "asm" => Some(Command::Asm),
         "dis" => Some(Command::Dis),
         "image" => Some(Command::Image),
@@ -46,6 +52,7 @@ impl Command {
     {
         match self {
             Command::Run => "run",
+            Command::Sim => "sim",
             Command::Asm => "asm",
             Command::Dis => "dis",
             Command::Image => "image",
@@ -57,6 +64,7 @@ impl Command {
     {
         match self {
             Command::Run => &[Choice::Trace, Choice::Touches],
+            Command::Sim => &[Choice::Workers, Choice::Trace, Choice::Touches],
             Command::Asm | Command::Dis | Command::Image => &[],
         }
     }
@@ -65,7 +73,7 @@ impl Command {
         ensures { result.now ≡ places_of self }
     {
         match self {
-            Command::Run => &[Place::Job],
+            Command::Run | Command::Sim => &[Place::Job],
             Command::Asm => &[Place::Source],
             Command::Dis | Command::Image => &[Place::Image],
         }
@@ -77,6 +85,7 @@ impl Choice {
         ensures { result.now ≡ choice_id self }
     {
         match self {
+            Choice::Workers => "workers",
             Choice::Trace => "trace",
             Choice::Touches => "touches",
         }
