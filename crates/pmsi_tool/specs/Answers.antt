@@ -1,6 +1,6 @@
 -- What the words and the files of a call give: a result, a refusal, or a file that can't be read. The bytes of the files are
 -- those that were read, in the order in which the command opens them; where contents are told, they are these.
-use Rattle.std.specs.Prelude.{◌≡◌, ℕ, ◌≤◌, ⊤, List, [], Option, Some, None, false}
+use Rattle.std.specs.Prelude.{◌≡◌, ℕ, ◌≤◌, ⊤, List, [], Option, Some, None, true, false}
 use Rattle.pmsi_model.specs.declared.Keep.{Keep}
 use Rattle.pmsi_model.specs.Job.{JobValue}
 use Rattle.pmsi_model.specs.Run.{machine_at}
@@ -98,7 +98,7 @@ StopsOn asked files stop = Stops (Comes files.contents asked) files stop
 -- why a call gives no result of what is asked for
 abbrev pub ComplainsOn : Call → AskedValue → FilesCall → Complaint → Type 0
 ComplainsOn call asked files Usage = serves call asked ≡ false
-ComplainsOn call asked files (Stopped stop) = StopsOn asked files stop
+ComplainsOn call asked files (Stopped stop) = (serves call asked ≡ true) × StopsOn asked files stop
 
 -- why words by themselves ask for nothing that can be done
 abbrev pub IsUnasked : List (List ℕ) → Complaint → Type 0

@@ -1,5 +1,5 @@
 use super::*;
-use pmsi_outside::{MemoryFiles, MemorySink, SteadyFiles};
+use pmsi_outside::{Gate, MemoryFiles, MemorySink, OpenGate, SteadyFiles};
 use std::alloc::{AllocError, Global};
 use std::process::Abort;
 use std::test::Fail;
@@ -93,6 +93,22 @@ fn run(alloc: Global, texts: &[&str], list: Vec<(String, Vec<u8>)>) -> Result<Ra
     let out = sink(alloc, 16_384, Vec::new(alloc))?;
     let err = sink(alloc, 16_384, Vec::new(alloc))?;
     call(alloc, texts, &mut files, out, err)
+}
+
+/// Calls `tool_threads` with files and sinks that never fail.
+fn run_threaded<G: Gate + Sync>(
+    rt: &HostRuntime,
+    texts: &[&str],
+    list: Vec<(String, Vec<u8>)>,
+    gate: &G,
+) -> Result<Ran, AllocError> {
+    let alloc = rt.alloc();
+    let words = words_of(alloc, texts)?;
+    let mut files = SteadyFiles::new(list);
+    let mut out = sink(alloc, 16_384, Vec::new(alloc))?;
+    let mut err = sink(alloc, 16_384, Vec::new(alloc))?;
+    let status = tool_threads(rt, alloc, &words, &mut files, &mut out, &mut err, gate);
+    Ok(Ran { status, out, err })
 }
 
 /// Calls `tool` with files that give 4,096 bytes at a time, and whose call of this number fails.

@@ -9,11 +9,12 @@ use Rattle.clap.specs.declared.error.kind.ErrorKind.{ErrorKind}
 use Rattle.clap.specs.declared.error.kind.ErrorKind.TheVariants.{OutOfMemory}
 use Rattle.clap.proofs.WalkLemmas.{both}
 use Rattle.tool_words.specs.declared.table.Command.{Command}
-use Rattle.tool_words.specs.declared.table.Command.TheVariants.{Run, Asm, Dis, Image}
+use Rattle.tool_words.specs.declared.table.Command.TheVariants.{Run, Sim, Asm, Dis, Image}
 use Rattle.tool_words.specs.Clap.{app_for, found_where, found_in, with_choices, with_places, choice_rule, place_rule}
 
 is_simple_line : (command : Command) → is_simple_and_free (app_for command) ≡ true
 is_simple_line Run = refl
+is_simple_line Sim = refl
 is_simple_line Asm = refl
 is_simple_line Dis = refl
 is_simple_line Image = refl

@@ -12,7 +12,7 @@ use Rattle.std.specs.Option.{option_map_or}
 use Rattle.std.specs.Str.{bytes_eq}
 use Rattle.std.proofs.lemmas.Slice.Eq.{bytes_eq-Decides}
 use Rattle.tool_words.specs.declared.table.Choice.{Choice}
-use Rattle.tool_words.specs.declared.table.Choice.TheVariants.{Trace, Touches}
+use Rattle.tool_words.specs.declared.table.Choice.TheVariants.{Workers, Trace, Touches}
 use Rattle.tool_words.specs.declared.table.Place.{Place}
 use Rattle.tool_words.specs.Table.{choice_id, place_id}
 use Rattle.tool_words.specs.Clap.{choice_rule, place_rule, found_where}
@@ -63,6 +63,7 @@ abbrev pub place_filled : ℕ → Place → Rule
 place_filled n place = with_index n (filled (place_rule place))
 
 flag_long : (choice : Choice) → long_of (flag choice) ≡ Some (choice_id choice, None)
+flag_long Workers = refl
 flag_long Trace = refl
 flag_long Touches = refl
 
@@ -70,6 +71,7 @@ same_id : (id : Text) → bytes_eq id id ≡ true
 same_id id = (bytes_eq-Decides id id).1 refl
 
 not_dashes : (choice : Choice) → bytes_eq (flag choice) (45 ∷ 45 ∷ []) ≡ false
+not_dashes Workers = refl
 not_dashes Trace = refl
 not_dashes Touches = refl
 

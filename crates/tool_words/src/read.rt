@@ -1,9 +1,11 @@
 //! Reading the words of a call.
 ghost use Rattle.std.specs.Prelude.{◌≡◌, ◌≢◌, ◌≤◌, IfOk, IfSome, None, false, map, option_map, string_bytes};
+ghost use Rattle.std.specs.Char.{is_ascii_digit};
+ghost use Rattle.std.specs.List.{list_all};
 ghost use Rattle.clap.specs.Words.{app_of, kind_of, rule_of};
 ghost use Rattle.tool_words.specs.Clap.{IsFoundIn, app_for, choice_rule, chosen, place_rule, placed};
 ghost use Rattle.pmsi_model.specs.declared.limits.TheConstants.{MAX_WORKERS};
-ghost use Rattle.tool_words.specs.Meaning.{HasWorkers, answer_in, is_number, keep_in, meaning, number_of, value_of, values_in, workers_in};
+ghost use Rattle.tool_words.specs.Meaning.{HasWorkers, answer_in, is_number, keep_in, meaning, number_of, value_of, values_in, within, workers_in};
 
 use crate::asked::Asked;
 use crate::table::{Choice, Command, DEFAULT_WORKERS, Place, command_named};
@@ -84,12 +86,32 @@ fn answer(text: Option<&str>) -> Option<bool>
     }
 }
 
+fn are_digits(bytes: &[u8]) -> bool
+    ensures { result ≡ list_all is_ascii_digit bytes.now }
+{
+    bytes.iter().all(|byte| byte.is_ascii_digit())
+}
+
 /// Whether a text is one to ten decimal digits.
 fn is_number(text: &str) -> bool
     ensures { result ≡ is_number text.now }
 {
     let digits = text.as_bytes();
-    !digits.is_empty() && digits.len() <= 10 && digits.iter().all(|byte| byte.is_ascii_digit())
+    if digits.is_empty() || digits.len() > 10 {
+        return false;
+    }
+    are_digits(digits)
+}
+
+fn within(number: u32, least: u32, most: u32) -> Option<u32>
+    ensures value { result ≡ within least most number }
+    ensures within { IfSome result (λ number. (least ≤ number) × (number ≤ most)) }
+{
+    if least <= number && number <= most {
+        Some(number)
+    } else {
+        None
+    }
 }
 
 /// Their number, where it is within the range.
@@ -100,11 +122,9 @@ fn number(text: &str, least: u32, most: u32) -> Option<u32>
     if !is_number(text) {
         return None;
     }
-    let number = text.parse::<u32>().ok()?;
-    if least <= number && number <= most {
-        Some(number)
-    } else {
-        None
+    match text.parse::<u32>() {
+        Ok(number) => within(number, least, most),
+        Err(_) => None,
     }
 }
 

@@ -23,6 +23,11 @@ fn run(trace: bool, touches: bool, job: &str) -> Option<Asked> {
     Some(Asked::Run { keep, job })
 }
 
+fn sim(workers: u32, trace: bool, touches: bool, job: &str) -> Option<Asked> {
+    let keep = Keep { trace, touches };
+    Some(Asked::Sim { workers, keep, job })
+}
+
 #[test]
 fn canonical_words(rt: HostRuntime) {
     let alloc = rt.alloc();
@@ -37,6 +42,21 @@ fn canonical_words(rt: HostRuntime) {
         (
             &["run", "--trace", "yes", "--touches", "no", "help"],
             run(true, false, "help"),
+        ),
+        (&["sim", "a"], sim(2, false, false, "a")),
+        (&["sim", "--workers", "1", "a"], sim(1, false, false, "a")),
+        (
+            &[
+                "sim",
+                "--workers",
+                "16",
+                "--trace",
+                "yes",
+                "--touches",
+                "no",
+                "a",
+            ],
+            sim(16, true, false, "a"),
         ),
         (&["asm", "a.s"], Some(Asked::Asm("a.s"))),
         (&["dis", "a.img"], Some(Asked::Dis("a.img"))),
@@ -58,6 +78,14 @@ fn other_words_with_a_meaning(rt: HostRuntime) {
         (
             &["run", "--trace", "yes", "--", "--touches"],
             run(true, false, "--touches"),
+        ),
+        (
+            &["sim", "--touches=yes", "--workers=3", "a"],
+            sim(3, false, true, "a"),
+        ),
+        (
+            &["sim", "a", "--workers", "0000000004"],
+            sim(4, false, false, "a"),
         ),
         (&["run", "--", "-h"], run(false, false, "-h")),
         (&["run", ""], run(false, false, "")),
@@ -88,6 +116,19 @@ fn words_without_a_meaning(rt: HostRuntime) {
         &["run", "--trace", "Yes", "a"],
         &["run", "--trace", "", "a"],
         &["run", "--touches=", "a"],
+        &["run", "--workers", "2", "a"],
+        &["sim"],
+        &["sim", "--workers", "0", "a"],
+        &["sim", "--workers", "17", "a"],
+        &["sim", "--workers", "00000000002", "a"],
+        &["sim", "--workers", "4294967298", "a"],
+        &["sim", "--workers", "9999999999", "a"],
+        &["sim", "--workers", "+2", "a"],
+        &["sim", "--workers", " 2", "a"],
+        &["sim", "--workers", "0x2", "a"],
+        &["sim", "--workers", "two", "a"],
+        &["sim", "--workers=", "a"],
+        &["sim", "--workers", "2", "--workers", "2", "a"],
         &["asm"],
         &["asm", "--trace", "yes", "a.s"],
         &["dis", "a.img", "b.img"],

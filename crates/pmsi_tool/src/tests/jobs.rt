@@ -4,6 +4,7 @@ use examples::{EXAMPLES, TWO_WRITERS};
 use std::str::from_utf8;
 
 mod examples;
+mod threads;
 
 /// The shape of a small machine, and four slots.
 pub(super) const SMALL: &str = "quantum 1\nline 4\nsets 1\nways 1\nmemory 64\nslots 4";
@@ -135,6 +136,9 @@ loop:   amoadd.w zero, t1, (t2)
         bnez t0, loop
         ecall
 ";
+
+/// The programs of four cores.
+const LOCKING: [&str; 4] = [PRODUCER, CONSUMER, COUNTER, COUNTER];
 
 /// The shape of the machine of `PRODUCER`, `CONSUMER` and two times `COUNTER`.
 const LOCKS: &str = "quantum 8\nline 8\nsets 64\nways 4\nmemory 65536\nslots 20000";
@@ -300,11 +304,12 @@ fn counts_up(rt: &impl Abort, alloc: Global, listing: &str, core: u32) -> Result
     Ok(())
 }
 
-/// A producer and a consumer hand on numbers by a lock, beside two cores that count up a word.
+/// A producer and a consumer hand on numbers by a lock, beside two cores that count up a word; whatever the number of
+/// workers, the listing is that of one thread.
 #[test]
 fn four_cores_share_locks(rt: HostRuntime) -> Result<(), Fail> {
     let alloc = rt.alloc();
-    let list = job_files(alloc, LOCKS, &[PRODUCER, CONSUMER, COUNTER, COUNTER])?;
+    let list = job_files(alloc, LOCKS, &LOCKING)?;
     let ran = run(alloc, &["run", "a.job"], list)?;
     let listing = listing_of(&rt, &ran);
     for (core, end) in [
@@ -321,6 +326,12 @@ fn four_cores_share_locks(rt: HostRuntime) -> Result<(), Fail> {
     }
     for line in LOCKS_MEMORY {
         assert!(rt; has_line(listing, line), "{line}");
+    }
+    for workers in ["1", "2", "4"] {
+        let list = job_files(alloc, LOCKS, &LOCKING)?;
+        let words = ["sim", "--workers", workers, "a.job"];
+        let threaded = run_threaded(&rt, &words, list, &OpenGate::new())?;
+        wrote(&rt, workers, &threaded, ran.out.bytes());
     }
     Ok(())
 }

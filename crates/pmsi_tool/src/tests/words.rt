@@ -10,6 +10,7 @@ const NO_COMMANDS: &[&[&str]] = &[
     &["Run", "a.job"],
     &["fly", "a.job"],
     &["sim", "a.job"],
+    &["sim", "--workers", "0", "a.job"],
     &["trace", "a.job"],
     &["asm"],
     &["dis"],
