@@ -96,13 +96,13 @@ fn run(alloc: Global, texts: &[&str], list: Vec<(String, Vec<u8>)>) -> Result<Ra
 }
 
 /// Calls `tool_threads` with files and sinks that never fail.
-fn run_threaded<G: Gate + Sync>(
-    rt: &HostRuntime,
+fn run_threaded<R: Threads + Wait + Sync, G: Gate + Sync>(
+    rt: &R,
+    alloc: Global,
     texts: &[&str],
     list: Vec<(String, Vec<u8>)>,
     gate: &G,
 ) -> Result<Ran, AllocError> {
-    let alloc = rt.alloc();
     let words = words_of(alloc, texts)?;
     let mut files = SteadyFiles::new(list);
     let mut out = sink(alloc, 16_384, Vec::new(alloc))?;

@@ -330,7 +330,7 @@ fn four_cores_share_locks(rt: HostRuntime) -> Result<(), Fail> {
     for workers in ["1", "2", "4"] {
         let list = job_files(alloc, LOCKS, &LOCKING)?;
         let words = ["sim", "--workers", workers, "a.job"];
-        let threaded = run_threaded(&rt, &words, list, &OpenGate::new())?;
+        let threaded = run_threaded(&rt, alloc, &words, list, &OpenGate::new())?;
         wrote(&rt, workers, &threaded, ran.out.bytes());
     }
     Ok(())

@@ -20,7 +20,7 @@ fn threads_serve_sim_alone(rt: HostRuntime) -> Result<(), Fail> {
     let alloc = rt.alloc();
     for texts in NO_SIMS {
         let list = job_files(alloc, SMALL, &[ADDS])?;
-        let ran = run_threaded(&rt, texts, list, &OpenGate::new())?;
+        let ran = run_threaded(&rt, alloc, texts, list, &OpenGate::new())?;
         let line = "usage: pmsi COMMAND [OPTIONS] ARGUMENTS\n";
         told(&rt, "words", &ran, ToolStatus::Usage, line);
     }
@@ -31,11 +31,17 @@ fn threads_serve_sim_alone(rt: HostRuntime) -> Result<(), Fail> {
 fn threads_need_a_job(rt: HostRuntime) -> Result<(), Fail> {
     let alloc = rt.alloc();
     let gate = OpenGate::new();
-    let ran = run_threaded(&rt, &["sim", "b.job"], Vec::new(alloc), &gate)?;
+    let ran = run_threaded(&rt, alloc, &["sim", "b.job"], Vec::new(alloc), &gate)?;
     told(&rt, "none", &ran, ToolStatus::ReadFault, "read fault\n");
     let heads = "quantum 256\nline 4\nsets 1\nways 1\nmemory 64\nslots 1000";
     let list = job_files(alloc, heads, &["ecall"; 16])?;
-    let ran = run_threaded(&rt, &["sim", "--touches", "yes", "a.job"], list, &gate)?;
+    let ran = run_threaded(
+        &rt,
+        alloc,
+        &["sim", "--touches", "yes", "a.job"],
+        list,
+        &gate,
+    )?;
     refused(&rt, alloc, &ran, "input: touches 4096000")?;
     Ok(())
 }
@@ -44,6 +50,7 @@ fn threads_need_a_job(rt: HostRuntime) -> Result<(), Fail> {
 const SLOTS: u32 = 6;
 
 /// Writes down each phase of two cores, and holds each until the other core has come to the same slot.
+#[derive(Drop)]
 struct Meetings {
     /// How often each core came: core 0 and core 1 in slot 0, and so on.
     came: Vec<AtomicU32>,
@@ -108,7 +115,7 @@ fn two_cores_run_at_the_same_time(rt: HostRuntime) -> Result<(), Fail> {
         "yes",
         "a.job",
     ];
-    let ran = run_threaded(&rt, &words, list, &gate)?;
+    let ran = run_threaded(&rt, alloc, &words, list, &gate)?;
     assert_eq!(rt; gate.alone.load(Ordering::SeqCst), 0);
     assert_eq!(rt; gate.strays.load(Ordering::SeqCst), 0);
     for times in &gate.came {
