@@ -6,7 +6,8 @@ use Rattle.job_text.specs.Cutting.{fields_between, rows_from, rows_of}
 use Rattle.job_text.specs.Sayings.{digits_in, number_in, word_in, words_in, read_kind, head_named, read_line, is_version}
 use Rattle.job_text.specs.Faults.{first_of, sayings_of, number_at, program_of, cores_in, row_fault, rows_fault, missing_head, is_within, heads_limit, least, core_limit, missing_core, text_limit, said_fault, fault_of}
 use Rattle.job_text.specs.Plans.{shape_lines, program_fields, core_lines, plan_text}
-use Rattle.job_text.specs.Examples.{ReadsTexts, FindsFaults, PrintsPlans}
+use Rattle.job_text.specs.Generating.{state_after, text_from}
+use Rattle.job_text.specs.Examples.{ReadsTexts, FindsFaults, MakesPrograms, PrintsPlans}
 
 pub reads_texts : ReadsTexts
 unfolding fields_between rows_from rows_of digits_in number_in word_in words_in read_kind head_named read_line is_version first_of sayings_of number_at program_of cores_in row_fault rows_fault missing_head is_within heads_limit least core_limit missing_core text_limit said_fault fault_of is_utf8 chars lib.Utf8.encode lib.Count.ones
@@ -59,4 +60,12 @@ pub prints_plans : PrintsPlans
 unfolding shape_lines program_fields core_lines plan_text digits
 prints_plans = record {
   text = refl;
+}
+
+pub makes_programs : MakesPrograms
+unfolding state_after text_from
+makes_programs = record {
+  first = refl;
+  last = refl;
+  next = refl;
 }

@@ -4,6 +4,8 @@ pub mod EitherJoin
 pub mod Fields
 pub mod FirstDifferences
 pub mod Gatherings
+pub mod GeneratedPlans
+pub mod Generations
 pub mod HeadTables
 pub mod ImageBytes
 pub mod Judgings

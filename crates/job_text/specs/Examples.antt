@@ -1,5 +1,5 @@
 -- Small job texts, and what the definitions give for them.
-use Rattle.std.specs.Prelude.{◌≡◌, ℕ, List, [], ◌∷◌, ◌++◌, codes, Option, Some, None}
+use Rattle.std.specs.Prelude.{◌≡◌, ℕ, List, [], ◌∷◌, ◌++◌, codes, take, drop, Option, Some, None}
 use Rattle.job_text.specs.declared.job_fault.HeadWord.TheVariants as head
 use Rattle.job_text.specs.declared.job_fault.LineCause.{LineCause}
 use Rattle.job_text.specs.declared.job_fault.LineCause.TheVariants as cause
@@ -8,6 +8,7 @@ use Rattle.job_text.specs.declared.job_fault.JobFault.TheVariants.{NotText, Line
 use Rattle.job_text.specs.declared.plan.Program.TheVariants.{Words, Asm, Image}
 use Rattle.job_text.specs.declared.saying.Saying.TheVariants.{Sets, Runs}
 use Rattle.job_text.specs.Faults.{said_in, fault_of}
+use Rattle.job_text.specs.Generating.{state_after, text_from}
 use Rattle.job_text.specs.Plans.{plan_text}
 
 -- the heads of a small machine, but for the number of cores
@@ -81,3 +82,11 @@ pub record PrintsPlans : Type 0 where
         programs = Words (0x7f ∷ 0xabcdef01 ∷ []) ∷ Asm (codes "a.s") ∷ [];
       })
       ≡ codes "pmsi 1\ncores 2\nquantum 1\nline 4\nsets 1\nways 1\nmemory 64\nslots 1000000\ncore 0 hex 0000007f abcdef01\ncore 1 asm a.s\n"
+
+-- words of the programs that seed 0 gives
+pub record MakesPrograms : Type 0 where
+  -- `addi x7, x0, 504` and `add x5, x5, x7`
+  pub first : take 2 (text_from 0) ≡ 0x1f800393 ∷ 0x007282b3 ∷ []
+  pub last : drop 60 (text_from 0) ≡ 0x34800393 ∷ 0x0053a023 ∷ 0x00130313 ∷ 0xf05ff06f ∷ []
+  -- of core 1
+  pub next : take 4 (text_from (state_after 0 31)) ≡ 0x28000393 ∷ 0x0003a283 ∷ 0x2d000393 ∷ 0x0053a023 ∷ []

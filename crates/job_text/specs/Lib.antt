@@ -1,6 +1,7 @@
 pub mod Cutting
 pub mod Faults
 pub mod Gathering
+pub mod Generating
 pub mod Joining
 pub mod Joins
 pub mod Examples

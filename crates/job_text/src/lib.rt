@@ -5,6 +5,7 @@
 mod cutting;
 pub mod examples;
 mod gathered;
+mod generating;
 mod job_fault;
 mod joining;
 mod judging;
@@ -23,6 +24,7 @@ mod saying;
 #[cfg(test)]
 mod tests;
 
+pub use generating::generate;
 pub use job_fault::{HeadWord, JobFault, LineCause};
 pub use joining::join_job;
 pub use plan::{JobPlan, Program, Programs};

@@ -76,6 +76,17 @@ fn reads_a_printed_plan_again(rt: HostRuntime) -> Result<(), Fail> {
 }
 
 #[test]
+fn makes_a_plan_from_a_seed(rt: HostRuntime) -> Result<(), Fail> {
+    let plan = generate(rt.alloc(), 0, 1, 0).ok().ok_or("there is memory")?;
+    let text = print_plan(rt.alloc(), &plan).ok().ok_or("there is memory")?;
+    let begin =
+        "pmsi 1\ncores 1\nquantum 4\nline 4\nsets 2\nways 2\nmemory 1024\nslots 0\ncore 0 hex 1f800393 007282b3 ";
+    assert!(rt; text.starts_with(begin.as_bytes()));
+    assert!(rt; text.ends_with(b" 00130313 f05ff06f\n"));
+    Ok(())
+}
+
+#[test]
 fn finds_the_first_fault(rt: HostRuntime) -> Result<(), Fail> {
     for (lines, fault) in [
         ("pmsi 2 3\ncores x\n", JobFault::Twice(HeadWord::Version)),
