@@ -7,6 +7,7 @@ use Rattle.std.proofs.lemmas.List.Concat.{flat_map-append}
 use Rattle.pmsi_model.specs.declared.job.Geometry.{Geometry}
 use Rattle.pmsi_model.specs.declared.Keep.{Keep}
 use Rattle.pmsi_model.specs.declared.Mode.{Mode}
+use Rattle.pmsi_model.specs.declared.Row.{Row}
 use Rattle.pmsi_model.specs.Job.{JobValue}
 use Rattle.pmsi_model.specs.Slots.{SlotPlan, bound_of, plan_of}
 use Rattle.pmsi_model.specs.Lines.{held_text, held_line, shape_line, row_line, open_row_line, bound_line}
@@ -14,6 +15,7 @@ use Rattle.pmsi_model.specs.Listing.{core_text, core_texts, memory_texts, waits_
 use Rattle.pmsi_model.specs.Rows.{rows_of, open_rows_in}
 use Rattle.pmsi_model.specs.Machine.{CoreState, Machine}
 use Rattle.pmsi_model.specs.Run.{machine_at}
+use Rattle.listing.specs.Summary.{summary_of}
 use Rattle.text_out.proofs.Grown.{grown}
 
 -- ---- held lines
@@ -71,6 +73,19 @@ all_parts job keep shape given plan bound old o1 o2 o3 o4 o5 o6 o7 o8 o9 o10 s g
     let s8 : o8 ≡ old ++ t8 = grown old t7 o7 o8 _ s7 (h8 ∙ ap (λ (x : ℕ). o7 ++ bound_line x) (b ∙ ap bound_of p)) in
     let s9 : o9 ≡ old ++ t9 = grown old t8 o8 o9 (trace_text job keep) s8 h9 in
     grown old (t9 ++ touches_text job keep) o10 (o10 ++ codes "end\n") (codes "end\n") (grown old t9 o9 o10 (touches_text job keep) s9 h10) refl
+
+-- ---- the summary
+
+pub summary_parts : (job : JobValue) (shape given : Geometry) (plan : SlotPlan) (bound : ℕ) (old o1 o2 : List ℕ) → shape ≡ job.shape → given ≡ job.shape → plan ≡ plan_of job → bound ≡ bound_of plan
+    → o1 ≡ old ++ shape_line given → o2 ≡ o1 ++ waits_texts (rows_of job job.shape.slots) shape.cores → o2 ++ bound_line bound ≡ old ++ summary_of job
+unfolding summary_of
+summary_parts job shape given plan bound old o1 o2 s g p b h1 h2 =
+    let rows : List Row = rows_of job job.shape.slots in
+    let t1 : List ℕ = shape_line job.shape in
+    let t2 : List ℕ = t1 ++ waits_texts rows job.shape.cores in
+    let s1 : o1 ≡ old ++ t1 = h1 ∙ ap (λ (x : Geometry). old ++ shape_line x) g in
+    let s2 : o2 ≡ old ++ t2 = grown old t1 o1 o2 (waits_texts rows job.shape.cores) s1 (h2 ∙ ap (λ (x : Geometry). o1 ++ waits_texts rows x.cores) s) in
+    grown old t2 o2 (o2 ++ bound_line bound) (bound_line (bound_of (plan_of job))) s2 (ap (λ (x : ℕ). o2 ++ bound_line x) (b ∙ ap bound_of p))
 
 -- ---- cores
 

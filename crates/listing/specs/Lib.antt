@@ -3,3 +3,4 @@ pub mod Waits
 pub mod Rests
 pub mod Pieces
 pub mod Asked
+pub mod Summary

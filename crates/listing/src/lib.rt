@@ -14,7 +14,7 @@ mod whole;
 
 pub use cores::{push_core_line, push_held_line, push_regs_line, push_shape_line};
 pub use waits::{push_bound_line, push_waits_line};
-pub use whole::listing;
+pub use whole::{listing, summary};
 
 #[cfg(test)]
 mod tests;

@@ -1,11 +1,11 @@
-//! A whole run of two cores, and its listing.
+//! Whole runs, their listings and summaries.
 ghost use Rattle.std.specs.Prelude.{◌≡◌, ◌≤◌, ◌<◌, ◌^◌, IfOk, length, true};
 ghost use Rattle.std.specs.List.{All};
 ghost use Rattle.pmsi_model.specs.declared.Keep.{Keep};
 ghost use Rattle.pmsi_model.specs.declared.limits.TheConstants.{MAX_TEXT_WORDS};
 ghost use Rattle.sim_serial.specs.Sims.{Keeps, shape_of, slot_of};
 
-use crate::listing;
+use crate::{listing, summary};
 use pmsi_model::{Bytes, Geometry, Job, Keep, WordLists, Words};
 use sim_serial::Sim;
 use std::alloc::{AllocError, Global};
@@ -19,6 +19,17 @@ const BOTH: Keep = Keep {
     trace: true,
     touches: true,
 };
+
+const NEITHER: Keep = Keep {
+    trace: false,
+    touches: false,
+};
+
+const SUMMARY: &str = "\
+cores 1 quantum 4 line 4 sets 2 ways 2 memory 1024 slots 0
+waits 0 count 0 greatest 0 sum 0
+bound 8
+";
 
 const EXPECTED: &str = "\
 pmsi listing 1
@@ -118,5 +129,40 @@ fn lists_a_copy_as_its_original(rt: HostRuntime) -> Result<(), Fail> {
     };
     ends_as_expected(&rt, rt.alloc(), &mut sim);
     ends_as_expected(&rt, rt.alloc(), &mut copy);
+    Ok(())
+}
+
+/// One core with an empty text, and no slots.
+fn nothing_run(rt: &impl Abort, alloc: Global) -> Result<Sim, AllocError>
+    ensures start { IfOk result (λ sim. slot_of sim ≡ 0) }
+    ensures slots { IfOk result (λ sim. (shape_of sim).slots ≡ 0) }
+{
+    let shape = Geometry {
+        cores: 1,
+        quantum: 4,
+        line_words: 4,
+        sets: 2,
+        ways: 2,
+        memory: 1024,
+        slots: 0,
+    };
+    let mut texts = Vec::new(alloc);
+    texts.push(text(alloc, &WRITES_7)?)?;
+    assert!(rt; shape.is_within_limits());
+    let start = vec![in alloc; 0; 1024]?;
+    let job = Job::new(shape, WordLists::from_vec(texts), Bytes::from_vec(start));
+    let Ok(sim) = Sim::open(alloc, &job, NEITHER) else {
+        panic!(rt; "no memory")
+    };
+    Ok(sim)
+}
+
+#[test]
+fn sums_up_a_run_of_no_slots(rt: HostRuntime) -> Result<(), Fail> {
+    let sim = nothing_run(&rt, rt.alloc())?;
+    let Ok(text) = summary(rt.alloc(), &sim) else {
+        panic!(rt; "no memory")
+    };
+    assert!(rt; text.as_slice() == SUMMARY.as_bytes());
     Ok(())
 }

@@ -1,9 +1,10 @@
-//! The whole listing.
+//! The whole listing, and the summary.
 ghost use Rattle.std.specs.Prelude.{◌≡◌, ◌++◌, OnOk, IfOk};
 ghost use Rattle.pmsi_model.specs.Job.{JobValue};
 ghost use Rattle.pmsi_model.specs.Listing.{listing_of};
 ghost use Rattle.sim_serial.specs.Sims.{IsSimOf, shape_of, slot_of};
 ghost use Rattle.listing.specs.Asked.{KeepsAsked};
+ghost use Rattle.listing.specs.Summary.{summary_of};
 
 use crate::cores::push_shape_line;
 use crate::merge::{push_rows, push_touches};
@@ -41,5 +42,24 @@ pub fn listing(alloc: Global, sim: &Sim, keep: Keep) -> Result<Vec<u8>, NoMemory
 {
     let mut out = Vec::new(alloc);
     push_listing(&mut out, alloc, sim, keep)?;
+    Ok(out)
+}
+
+/// Appends the summary.
+fn push_summary(out: &mut Vec<u8>, sim: &Sim) -> Result<(), AllocError>
+    ensures { (job : JobValue) → IsSimOf job job.shape.slots sim.now → OnOk result (out.new.items ≡ out.old.items ++ summary_of job) }
+{
+    push_shape_line(out, &sim.shape())?;
+    push_waits_lines(out, sim)?;
+    push_bound_line(out, bound(sim.bus().table()))
+}
+
+/// The summary of a run that is over: its shape, and the waits of each core with their bound, in slots.
+pub fn summary(alloc: Global, sim: &Sim) -> Result<Vec<u8>, NoMemory>
+    requires { slot_of sim.now ≡ (shape_of sim.now).slots }
+    ensures { IfOk result (λ text. (job : JobValue) → IsSimOf job job.shape.slots sim.now → text.items ≡ summary_of job) }
+{
+    let mut out = Vec::new(alloc);
+    push_summary(&mut out, sim)?;
     Ok(out)
 }
