@@ -1,0 +1,20 @@
+//! Traces: the actions of a bus, slot by slot, as text. Writes traces and reads them; the first fault of a text, from the
+//! top, is told in place of a trace.
+#![tactic(auto)]
+
+mod actions;
+mod fault;
+pub mod laws;
+mod numerals;
+mod parts;
+mod reading;
+mod row;
+#[cfg(test)]
+mod tests;
+mod trace;
+mod writing;
+
+pub use fault::TraceFault;
+pub use reading::read_trace;
+pub use trace::{Actions, Trace};
+pub use writing::write_trace;

@@ -1,0 +1,13 @@
+//! What a trace says.
+
+use pmsi_model::{Action, Sequence};
+
+/// Actions, one per slot.
+pub type Actions = Sequence<Action>;
+
+/// The actions of a bus in the slots from 0 on. The cores own the slots in turn, core 0 the first.
+#[derive(Debug, Drop)]
+pub struct Trace {
+    pub cores: u32,
+    pub actions: Actions,
+}
