@@ -2,9 +2,10 @@
 -- last newline is no line. Fields are parted by single blanks, and a number has no leading zeros, so that a line says one
 -- thing at most, and each thing has one spelling.
 use Rattle.std.specs.Prelude.{◌≡◌, ℕ, ◌+◌, ◌%◌, Bool, true, false, not, ◌&&◌, ◌==◌, nat_le, if◌then◌else◌, List, [], ◌∷◌, ◌++◌, length, codes, decimal, Option, Some, None, Result, Ok, Err}
-use Rattle.std.specs.List.{slice_split}
+use Rattle.std.specs.Char.{is_ascii_digit}
+use Rattle.std.specs.List.{list_all, slice_split}
 use Rattle.std.specs.Option.{option_map}
-use Rattle.std.specs.Str.{bytes_eq, all_ascii_digits}
+use Rattle.std.specs.Str.{bytes_eq}
 use Rattle.std.specs.Str.Parse.{digits_value}
 use Rattle.pmsi_model.specs.declared.Action.{Action}
 use Rattle.pmsi_model.specs.declared.Action.TheVariants.{Idle, Post, Fill, PostFill, Back}
@@ -27,7 +28,7 @@ has_plain_start (digit ∷ next ∷ digits) = not (digit == 48)
 
 -- a number of any size: decimal digits without a leading zero
 abbrev pub is_numeral : List ℕ → Bool
-is_numeral field = has_plain_start field && all_ascii_digits field
+is_numeral field = has_plain_start field && list_all is_ascii_digit field
 
 -- a number up to a limit
 unfoldable pub number_in : ℕ → List ℕ → Option ℕ

@@ -4,8 +4,8 @@
 
 mod actions;
 mod fault;
+mod fields;
 pub mod laws;
-mod numerals;
 mod parts;
 mod reading;
 mod row;
