@@ -1,2 +1,8 @@
+pub mod ActionLines
+pub mod Agains
 pub mod Cuts
 pub mod Numerals
+pub mod RowParts
+pub mod RowReads
+pub mod Spellings
+pub mod Accepted

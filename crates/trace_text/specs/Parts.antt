@@ -7,9 +7,3 @@ use Rattle.std.specs.List.{slice_split}
 abbrev pub parts_of : ℕ → Option (Bor (List ℕ)) → List (List ℕ)
 parts_of mark None = []
 parts_of mark (Some rest) = slice_split (λ byte. byte == mark) rest.now
-
--- the first part, and what follows it, where there is a mark between
-abbrev pub first_line : List (List ℕ) → Option (List ℕ × List (List ℕ))
-first_line [] = None
-first_line (rest ∷ []) = None
-first_line (line ∷ next ∷ more) = Some (line, next ∷ more)

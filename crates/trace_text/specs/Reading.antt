@@ -113,6 +113,17 @@ row_in cores slot (word ∷ number ∷ name ∷ core ∷ action) =
 
 -- ---- the whole
 
+-- the first part, and what follows it, where there is a mark between
+abbrev pub first_line : List (List ℕ) → Option (List ℕ × List (List ℕ))
+first_line [] = None
+first_line (rest ∷ []) = None
+first_line (line ∷ next ∷ more) = Some (line, next ∷ more)
+
+-- bytes end where a line is to begin, or in it
+abbrev pub on_line : Option (List ℕ × List (List ℕ)) → (List ℕ → List (List ℕ) → Result Trace TraceFault) → Result Trace TraceFault
+on_line None read = Err End
+on_line (Some found) read = read found.0 found.1
+
 -- nothing stands behind the last line
 abbrev pub is_last : List (List ℕ) → Bool
 is_last [] = false
@@ -153,14 +164,10 @@ with_cores (Some cores) lines = rows_in cores [] lines
 
 -- behind the first line
 unfoldable pub cores_first : List (List ℕ) → Result Trace TraceFault
-cores_first [] = Err End
-cores_first (rest ∷ []) = Err End
-cores_first (line ∷ next ∷ more) = with_cores (cores_in (fields_of line)) (next ∷ more)
+cores_first parts = on_line (first_line parts) (λ line rest. with_cores (cores_in (fields_of line)) rest)
 
 unfoldable pub version_first : List (List ℕ) → Result Trace TraceFault
-version_first [] = Err End
-version_first (rest ∷ []) = Err End
-version_first (line ∷ next ∷ more) = if bytes_eq line (codes "pmsi trace 1") then cores_first (next ∷ more) else Err (Line 1)
+version_first parts = on_line (first_line parts) (λ line rest. if bytes_eq line (codes "pmsi trace 1") then cores_first rest else Err (Line 1))
 
 unfoldable pub reading_of : List ℕ → Result Trace TraceFault
 reading_of bytes = version_first (slice_split is_newline bytes)
