@@ -36,7 +36,7 @@ line_joined line fields is = sym (join_with_byte-slice_split 32 line) ∙ ap (jo
 -- ---- an action
 
 name_by : (a b c : Bool) (field : List ℕ) (name : Name) → (a ≡ true → field ≡ codes "GetS") → (b ≡ true → field ≡ codes "GetM") → (c ≡ true → field ≡ codes "Upg")
-        → (if a then Some GetS else if b then Some GetM else if c then Some Upg else None) ≡ Some name → field ≡ name_text name
+    → (if a then Some GetS else if b then Some GetM else if c then Some Upg else None) ≡ Some name → field ≡ name_text name
 name_by true b c field name x y z is = let e : GetS ≡ name = cc in x refl ∙ ap name_text e
 name_by false true c field name x y z is = let e : GetM ≡ name = cc in y refl ∙ ap name_text e
 name_by false false true field name x y z is = let e : Upg ≡ name = cc in z refl ∙ ap name_text e
@@ -47,7 +47,7 @@ unfolding name_in
 name_told field name is = name_by (bytes_eq field (codes "GetS")) (bytes_eq field (codes "GetM")) (bytes_eq field (codes "Upg")) field name (is_text field (codes "GetS")) (is_text field (codes "GetM")) (is_text field (codes "Upg")) is
 
 kept_by : (a b : Bool) (field : List ℕ) (kept : Bool) → (a ≡ true → field ≡ codes "keep") → (b ≡ true → field ≡ codes "drop")
-        → (if a then Some true else if b then Some false else None) ≡ Some kept → field ≡ kept_text kept
+    → (if a then Some true else if b then Some false else None) ≡ Some kept → field ≡ kept_text kept
 kept_by true b field kept x y is = let e : true ≡ kept = cc in x refl ∙ ap kept_text e
 kept_by false true field kept x y is = let e : false ≡ kept = cc in y refl ∙ ap kept_text e
 kept_by false false field kept x y is = absurd cc
@@ -114,9 +114,9 @@ back_by what first second (Some k) (Some b) action w x y is =
 
 long_by : (what first second : List ℕ) (a b c : Bool) (action : Action) → (a ≡ true → what ≡ codes "post") → (b ≡ true → what ≡ codes "postfill") → (c ≡ true → what ≡ codes "back")
     → (if a then both Post (name_in first) (number_in greatest_line second)
-       else if b then both PostFill (name_in first) (number_in greatest_line second)
-       else if c then both Back (number_in greatest_line first) (kept_in second)
-       else None) ≡ Some action → Told (what ∷ first ∷ second ∷ []) action
+    else if b then both PostFill (name_in first) (number_in greatest_line second)
+    else if c then both Back (number_in greatest_line first) (kept_in second)
+    else None) ≡ Some action → Told (what ∷ first ∷ second ∷ []) action
 long_by what first second true b c action x y z is = post_by what first second (name_in first) (number_in greatest_line second) action (x refl) (name_told first) (number_told second) is
 long_by what first second false true c action x y z is = postfill_by what first second (name_in first) (number_in greatest_line second) action (y refl) (name_told first) (number_told second) is
 long_by what first second false false true action x y z is = back_by what first second (number_in greatest_line first) (kept_in second) action (z refl) (number_told first) (kept_told second) is
@@ -186,8 +186,8 @@ more_rows cores done action line next more trace tells rows =
     let lines : List ℕ = action_lines (plain_plan cores) (slot + 1) rows.rest in
     let last : List ℕ = end_text (length (done ++ (action ∷ rows.rest))) in
     let after : join_with_byte 10 (next ∷ more) ≡ lines ++ last =
-        rows.text ∙ ap (λ (n : ℕ). action_lines (plain_plan cores) n rows.rest ++ end_text (length ((done ++ action ∷ []) ++ rows.rest))) next_slot
-        ∙ ap (λ (actions : List Action). lines ++ end_text (length actions)) same in
+    rows.text ∙ ap (λ (n : ℕ). action_lines (plain_plan cores) n rows.rest ++ end_text (length ((done ++ action ∷ []) ++ rows.rest))) next_slot
+    ∙ ap (λ (actions : List Action). lines ++ end_text (length actions)) same in
     record {
       rest = action ∷ rows.rest;
       all = rows.all ∙ ap (λ (actions : List Action). record { cores = cores; actions = actions }) same;
@@ -205,12 +205,12 @@ rows_told cores done [] trace few is = absurd cc
 rows_told cores done (rest ∷ []) trace few is = absurd cc
 rows_told cores done (line ∷ next ∷ more) trace few is =
     elim (on_row_parts (row_in cores (length done) (fields_of line)) (ended (record { cores = cores; actions = done }) (next ∷ more)) (λ action. rows_in cores (done ++ action ∷ []) (next ∷ more)) trace is) [
-      inl s ↦ (
-        let tells = tells_action cores (length done) (fields_of line) s.0 s.1 in
-        let below : length done < MAX_SLOTS = tells.below in
-        more_rows cores done s.0 line next more trace tells
-        (rows_told cores (done ++ s.0 ∷ []) (next ∷ more) trace (omega (arith, length-append done (s.0 ∷ []))) s.2))
-    | inr s ↦ last_rows cores done line next more trace few s.0 s.1
+      | inl s ↦ (
+          let tells = tells_action cores (length done) (fields_of line) s.0 s.1 in
+          let below : length done < MAX_SLOTS = tells.below in
+          more_rows cores done s.0 line next more trace tells
+          (rows_told cores (done ++ s.0 ∷ []) (next ∷ more) trace (omega (arith, length-append done (s.0 ∷ []))) s.2))
+      | inr s ↦ last_rows cores done line next more trace few s.0 s.1
     ]
 
 -- ---- the head
@@ -296,9 +296,10 @@ told_with : (bytes : List ℕ) (trace : Trace) (version : IsVersion (slice_split
     → IsTrace (record { cores = shape.cores; actions = rows.rest }) × (bytes ≡ trace_of (record { cores = shape.cores; actions = rows.rest }))
 unfolding trace_of
 told_with bytes trace version shape rows = (
-    record { some = shape.some; few = shape.few; slots = rows.few; lines = All-from_recursion HasLine rows.rest rows.lines },
-    sym (join_with_byte-slice_split 10 bytes) ∙ version.text ∙ ap (λ (text : List ℕ). codes "pmsi trace 1\n" ++ text) (shape.text ∙ ap (λ (text : List ℕ). (codes "cores " ++ decimal shape.cores) ++ (10 ∷ text)) rows.text)
-    ∙ regroup_head (codes "pmsi trace 1\n") (codes "cores ") (decimal shape.cores) (codes "\n") (action_lines (plain_plan shape.cores) 0 rows.rest) (end_text (length rows.rest)))
+  record { some = shape.some; few = shape.few; slots = rows.few; lines = All-from_recursion HasLine rows.rest rows.lines },
+  sym (join_with_byte-slice_split 10 bytes) ∙ version.text ∙ ap (λ (text : List ℕ). codes "pmsi trace 1\n" ++ text) (shape.text ∙ ap (λ (text : List ℕ). (codes "cores " ++ decimal shape.cores) ++ (10 ∷ text)) rows.text)
+      ∙ regroup_head (codes "pmsi trace 1\n") (codes "cores ") (decimal shape.cores) (codes "\n") (action_lines (plain_plan shape.cores) 0 rows.rest) (end_text (length rows.rest)),
+)
 
 pub read_is_written : (bytes : List ℕ) (trace : Trace) → reading_of bytes ≡ Ok trace → IsTrace trace × (bytes ≡ trace_of trace)
 unfolding reading_of

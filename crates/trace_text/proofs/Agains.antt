@@ -68,16 +68,16 @@ rows_again cores done (action ∷ rest) some most lines few =
     let line : List ℕ = slot_text slot (slot % cores) action in
     let after : List ℕ = action_lines (plain_plan cores) (slot + 1) rest ++ end_text (slot + length (action ∷ rest)) in
     let text : (action_line slot (slot % cores) action ++ action_lines (plain_plan cores) (slot + 1) rest) ++ end_text (slot + length (action ∷ rest)) ≡ line ++ (10 ∷ after) =
-        append_assoc (action_line slot (slot % cores) action) (action_lines (plain_plan cores) (slot + 1) rest) (end_text (slot + length (action ∷ rest))) ∙ line_is slot (slot % cores) action after in
+    append_assoc (action_line slot (slot % cores) action) (action_lines (plain_plan cores) (slot + 1) rest) (end_text (slot + length (action ∷ rest))) ∙ line_is slot (slot % cores) action after in
     let next : length (done ++ action ∷ []) ≡ slot + 1 = length-append done (action ∷ []) in
     let all : slot + 1 + length rest ≡ slot + length (action ∷ rest) = omega arith in
     let more : rows_in cores (done ++ action ∷ []) (slice_split is_newline after) ≡ Ok (record { cores = cores; actions = (done ++ action ∷ []) ++ rest }) =
-        subst (λ (n : ℕ). rows_in cores (done ++ action ∷ []) (slice_split is_newline (action_lines (plain_plan cores) (slot + 1) rest ++ end_text n)) ≡ Ok (record { cores = cores; actions = (done ++ action ∷ []) ++ rest })) all
-        (subst (λ (n : ℕ). rows_in cores (done ++ action ∷ []) (slice_split is_newline (action_lines (plain_plan cores) n rest ++ end_text (n + length rest))) ≡ Ok (record { cores = cores; actions = (done ++ action ∷ []) ++ rest })) next
-        (rows_again cores (done ++ action ∷ []) rest some most lines.1 (omega (arith, next)))) in
+    subst (λ (n : ℕ). rows_in cores (done ++ action ∷ []) (slice_split is_newline (action_lines (plain_plan cores) (slot + 1) rest ++ end_text n)) ≡ Ok (record { cores = cores; actions = (done ++ action ∷ []) ++ rest })) all
+    (subst (λ (n : ℕ). rows_in cores (done ++ action ∷ []) (slice_split is_newline (action_lines (plain_plan cores) n rest ++ end_text (n + length rest))) ≡ Ok (record { cores = cores; actions = (done ++ action ∷ []) ++ rest })) next
+    (rows_again cores (done ++ action ∷ []) rest some most lines.1 (omega (arith, next)))) in
     ap (λ (bytes : List ℕ). rows_in cores done (slice_split is_newline bytes)) text
     ∙ goes_on cores done action (slice_split is_newline (line ++ (10 ∷ after))) line (slice_split is_newline after)
-      (line_first line after (slot_lacks slot (slot % cores) action (omega arith) owner lines.0)) (sym (row_again cores slot action some most low lines.0))
+    (line_first line after (slot_lacks slot (slot % cores) action (omega arith) owner lines.0)) (sym (row_again cores slot action some most low lines.0))
     ∙ more ∙ ap (λ (actions : List Action). Ok (record { cores = cores; actions = actions })) (append_assoc done (action ∷ []) rest)
 
 -- ---- the head
@@ -110,8 +110,8 @@ written_is_read trace is =
     let text = regroup_head (codes "pmsi trace 1\n") (codes "cores ") (decimal n) (codes "\n") (action_lines (plain_plan n) 0 trace.actions) (end_text (length trace.actions)) in
     let whole : lacks 10 (codes "cores " ++ decimal trace.cores) ≡ true = lacks_both 10 (codes "cores ") (decimal n) refl (decimal_lacks 10 n (omega arith) (omega (arith, is.few))) in
     let all : rows_in n [] (slice_split is_newline rows) ≡ Ok trace =
-        subst (λ (k : ℕ). rows_in n [] (slice_split is_newline (action_lines (plain_plan n) 0 trace.actions ++ end_text k)) ≡ Ok trace) (zero-add (length trace.actions))
-        (rows_again n [] trace.actions is.some is.few (recursion_from_All HasLine trace.actions is.lines) (omega (arith, is.slots))) in
+    subst (λ (k : ℕ). rows_in n [] (slice_split is_newline (action_lines (plain_plan n) 0 trace.actions ++ end_text k)) ≡ Ok trace) (zero-add (length trace.actions))
+    (rows_again n [] trace.actions is.some is.few (recursion_from_All HasLine trace.actions is.lines) (omega (arith, is.slots))) in
     ap (λ (bytes : List ℕ). version_first (slice_split is_newline bytes)) text
     ∙ version_again (slice_split is_newline (codes "pmsi trace 1\n" ++ (line ++ (10 ∷ rows)))) (slice_split is_newline (line ++ (10 ∷ rows))) (line_first (codes "pmsi trace 1") (line ++ (10 ∷ rows)) refl)
     ∙ shape_again n (slice_split is_newline (line ++ (10 ∷ rows))) (slice_split is_newline rows) is.some is.few (line_first line rows whole)

@@ -17,7 +17,7 @@ pub at_mark : (p : ℕ → Bool) (bytes : List ℕ) (end : ℕ) → end ≡ posi
     → slice_split p bytes ≡ take end bytes ∷ slice_split p (take (length bytes - (end + 1)) (drop (end + 1) bytes))
 at_mark p bytes end is low =
     let rest : take (length bytes - (end + 1)) (drop (end + 1) bytes) ≡ drop (end + 1) bytes =
-        take_all (length bytes - (end + 1)) (drop (end + 1) bytes) (omega (arith, length-drop (end + 1) bytes)) in
+    take_all (length bytes - (end + 1)) (drop (end + 1) bytes) (omega (arith, length-drop (end + 1) bytes)) in
     rw (rest, is) (slice_split_first p bytes 0 (omega arith))
 
 -- there are parts

@@ -2,6 +2,7 @@ pub mod ActionLines
 pub mod Agains
 pub mod Cuts
 pub mod Numerals
+pub mod OneEnd
 pub mod RowParts
 pub mod RowReads
 pub mod Spellings

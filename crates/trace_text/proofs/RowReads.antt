@@ -52,4 +52,3 @@ pub shorter : (parts : List (List ℕ)) (line : List ℕ) (rest : List (List ℕ
 shorter [] line rest is = absurd cc
 shorter (last ∷ []) line rest is = absurd cc
 shorter (first ∷ next ∷ more) line rest is = let same = found first next line more rest is in omega (arith, ap length same.1)
-

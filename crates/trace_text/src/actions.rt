@@ -67,20 +67,11 @@ fn long_in(what: &[u8], first: &[u8], second: &[u8]) -> Option<Action>
     ensures { result ≡ long_in what.now first.now second.now }
 {
     if is_word(what, "post") {
-        Some(Action::Post(
-            name_in(first)?,
-            number_in(second, GREATEST_LINE)?,
-        ))
+        Some(Action::Post(name_in(first)?, number_in(second, GREATEST_LINE)?))
     } else if is_word(what, "postfill") {
-        Some(Action::PostFill(
-            name_in(first)?,
-            number_in(second, GREATEST_LINE)?,
-        ))
+        Some(Action::PostFill(name_in(first)?, number_in(second, GREATEST_LINE)?))
     } else if is_word(what, "back") {
-        Some(Action::Back(
-            number_in(first, GREATEST_LINE)?,
-            kept_in(second)?,
-        ))
+        Some(Action::Back(number_in(first, GREATEST_LINE)?, kept_in(second)?))
     } else {
         None
     }

@@ -1,6 +1,6 @@
 //! Reads traces.
 
-ghost use Rattle.std.specs.Prelude.{◌≡◌, ◌≢◌, ◌⊎◌, ◌≤◌, [], length, Ok, Err, IfOk, IfErr};
+ghost use Rattle.std.specs.Prelude.{◌≡◌, ◌≢◌, ◌⊎◌, ◌≤◌, [], length, Ok, Err, IfOk, IfErr, IfSome};
 ghost use Rattle.pmsi_model.specs.declared.limits.TheConstants.{MAX_FILE_BYTES};
 ghost use Rattle.trace_text.specs.declared.fault.TraceFault.{TraceFault};
 ghost use Rattle.trace_text.specs.declared.trace.Trace.{Trace};
@@ -63,7 +63,8 @@ fn trace_in(alloc: Global, bytes: &[u8]) -> Result<Trace, TraceFault>
 /// The number of cores that the second line tells.
 #[tactic(auto, unfolding(crate::specs::Reading::cores_in))]
 fn cores_in(line: &[u8]) -> Option<u32>
-    ensures { result ≡ cores_in (fields_of line.now) }
+    ensures value { result ≡ cores_in (fields_of line.now) }
+    ensures some { IfSome result (λ cores. 1 ≤ cores) }
 {
     let mut fields = Parts::new(line, b' ');
     let word = fields.next()?;

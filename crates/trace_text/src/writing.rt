@@ -48,11 +48,7 @@ fn push_end(out: &mut Vec<u8>, count: u64) -> Result<(), AllocError>
 }
 
 /// Appends the line of each action, the first that of slot 0.
-fn push_action_lines(
-    out: &mut Vec<u8>,
-    cores: u32,
-    actions: &[Action],
-) -> Result<(), AllocError>
+fn push_action_lines(out: &mut Vec<u8>, cores: u32, actions: &[Action]) -> Result<(), AllocError>
     requires cores { 1 ≤ cores }
     requires slots { length actions.now ≤ MAX_SLOTS }
     ensures { OnOk result (out.new.items ≡ out.old.items ++ action_lines (plain_plan cores) 0 actions.now) }
