@@ -12,7 +12,7 @@ use Rattle.job_text.specs.declared.plan.JobPlan.{JobPlan}
 use Rattle.job_text.specs.declared.plan.Program.{Program}
 use Rattle.job_text.specs.declared.plan.Program.TheVariants.{Words, Asm, Image}
 use Rattle.job_text.specs.Plans.{IsPlanOf}
-use Rattle.tool_words.specs.Meaning.{AskedValue, run, asm, dis, image}
+use Rattle.tool_words.specs.Meaning.{AskedValue, run, sim, asm, dis, image}
 use Rattle.tool_files.specs.declared.refusal.Place.{Place}
 use Rattle.tool_files.specs.declared.refusal.Place.TheVariants.{Input, Core}
 use Rattle.tool_files.specs.declared.refusal.Detail.{Detail}
@@ -85,6 +85,7 @@ module _ {V : Type 0} where
 -- a row a command
 pub one_end : OneEnd
 one_end contents (run keep name) = job_end contents keep name (λ j. ends (listing_of j keep)) (λ j. end_ends (listing_of j keep))
+one_end contents (sim workers keep name) = job_end contents keep name (λ j. ends (listing_of j keep)) (λ j. end_ends (listing_of j keep))
 one_end contents (asm name) = source_end contents Input name (λ i. ends (image_bytes i)) (λ i. end_ends (image_bytes i))
 one_end contents (dis name) = image_end contents Input name (λ i. ends (listing_text i)) (λ i. end_ends (listing_text i))
 one_end contents (image name) = image_end contents Input name (λ i. ends (image_bytes i)) (λ i. end_ends (image_bytes i))
