@@ -60,16 +60,24 @@ impl Gate for Counter {
     }
 }
 
+fn text(alloc: Global, words: &[u32]) -> Result<Words, AllocError>
+    ensures same { IfOk result (λ text. text ≡ words.now) }
+    ensures words { IfOk result (λ text. All (λ word. word < 2 ^ 32) text) }
+{
+    Ok(Words::from_vec(words.to_vec(alloc)?))
+}
+
+fn part(dice: &mut Dice) -> u32 {
+    PARTS[dice.below(8) as usize]
+}
+
 /// A text of four words.
-fn text(alloc: Global, dice: &mut Dice) -> Result<Words, AllocError>
+fn some_text(alloc: Global, dice: &mut Dice) -> Result<Words, AllocError>
     ensures size { IfOk result (λ text. length text ≤ MAX_TEXT_WORDS) }
     ensures words { IfOk result (λ text. All (λ word. word < 2 ^ 32) text) }
 {
-    let mut words = [0; 4];
-    for k in 0..4 {
-        words[k] = PARTS[dice.below(8) as usize];
-    }
-    Ok(Words::from_vec(words.to_vec(alloc)?))
+    let words = [part(dice), part(dice), part(dice), part(dice)];
+    text(alloc, &words)
 }
 
 fn texts(alloc: Global, dice: &mut Dice, count: u32) -> Result<Vec<Words>, AllocError>
@@ -78,7 +86,7 @@ fn texts(alloc: Global, dice: &mut Dice, count: u32) -> Result<Vec<Words>, Alloc
 {
     let mut texts = Vec::new(alloc);
     for _ in 0..count {
-        texts.push(text(alloc, dice)?)?;
+        texts.push(some_text(alloc, dice)?)?;
     }
     Ok(texts)
 }
