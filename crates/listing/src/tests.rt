@@ -20,15 +20,11 @@ const BOTH: Keep = Keep {
     touches: true,
 };
 
-const NEITHER: Keep = Keep {
-    trace: false,
-    touches: false,
-};
-
 const SUMMARY: &str = "\
-cores 1 quantum 4 line 4 sets 2 ways 2 memory 1024 slots 0
-waits 0 count 0 greatest 0 sum 0
-bound 8
+cores 2 quantum 1 line 4 sets 1 ways 1 memory 64 slots 6
+waits 0 count 1 greatest 4 sum 4
+waits 1 count 1 greatest 1 sum 1
+bound 36
 ";
 
 const EXPECTED: &str = "\
@@ -132,34 +128,10 @@ fn lists_a_copy_as_its_original(rt: HostRuntime) -> Result<(), Fail> {
     Ok(())
 }
 
-/// One core with an empty text, and no slots.
-fn nothing_run(rt: &impl Abort, alloc: Global) -> Result<Sim, AllocError>
-    ensures start { IfOk result (λ sim. slot_of sim ≡ 0) }
-    ensures slots { IfOk result (λ sim. (shape_of sim).slots ≡ 0) }
-{
-    let shape = Geometry {
-        cores: 1,
-        quantum: 4,
-        line_words: 4,
-        sets: 2,
-        ways: 2,
-        memory: 1024,
-        slots: 0,
-    };
-    let mut texts = Vec::new(alloc);
-    texts.push(text(alloc, &WRITES_7)?)?;
-    assert!(rt; shape.is_within_limits());
-    let start = vec![in alloc; 0; 1024]?;
-    let job = Job::new(shape, WordLists::from_vec(texts), Bytes::from_vec(start));
-    let Ok(sim) = Sim::open(alloc, &job, NEITHER) else {
-        panic!(rt; "no memory")
-    };
-    Ok(sim)
-}
-
 #[test]
-fn sums_up_a_run_of_no_slots(rt: HostRuntime) -> Result<(), Fail> {
-    let sim = nothing_run(&rt, rt.alloc())?;
+fn sums_up_a_run(rt: HostRuntime) -> Result<(), Fail> {
+    let mut sim = two_writers(&rt, rt.alloc())?;
+    sim.run();
     let Ok(text) = summary(rt.alloc(), &sim) else {
         panic!(rt; "no memory")
     };
