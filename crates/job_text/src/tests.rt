@@ -4,7 +4,8 @@ ghost use Rattle.job_text.specs.Plans.{IsPrintable};
 ghost use Rattle.pmsi_model.specs.Image.{IsImage};
 
 use crate::{
-    HeadWord, JobFault, JobPlan, LineCause, Program, Programs, join_job, print_plan, read_plan,
+    HeadWord, JobFault, JobPlan, LineCause, Program, Programs, generate, join_job, print_plan,
+    read_plan,
 };
 use pmsi_model::limits::MAX_FILE_BYTES;
 use pmsi_model::{Bytes, Geometry, Image, Job, Piece, Pieces, Words};
