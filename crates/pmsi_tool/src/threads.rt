@@ -42,7 +42,7 @@ fn result_of<R: Threads + Wait + Sync, F: Files, G: Gate + Sync>(
     files: &mut F,
     gate: &G,
 ) -> Result<Vec<u8>, Complaint>
-    requires { HasWorkers asked.entry }
+    requires { HasWorkers asked }
     ensures served { IfOk result (λ _. serves threads_call (value_of asked.entry) ≡ true) }
     ensures text { IfOk result (λ text. GivesText (F.contents files.old) (value_of asked.entry) text.items) }
     ensures complaint { IfErr result (ComplainsOn threads_call (value_of asked.entry)
