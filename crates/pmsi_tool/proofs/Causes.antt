@@ -68,8 +68,8 @@ module _ (call : Call) (words : List (List ℕ)) (asked : AskedValue) (means : m
 
   pub given : {T E : Type 0} (contents : Option Contents) (r : Result T E) (bytes : T → List ℕ)
       → IfOk r (λ _. serves call asked ≡ true) → IfOk r (λ text. GivesText contents asked (bytes text)) → IfOk r (λ text. Gives call words contents (bytes text))
-  given contents (Ok text) bytes is gives = gives_from contents (bytes text) is gives
-  given contents (Err error) bytes is gives = tt
+  given contents (Ok text) bytes is comes = gives_from contents (bytes text) is comes
+  given contents (Err error) bytes is comes = tt
 
   pub complained : {T : Type 0} (files : FilesCall) (r : Result T Complaint) → IfErr r (ComplainsOn call asked files) → IfErr r (Stands call words files)
   complained files (Ok text) stops = tt

@@ -9,8 +9,8 @@ use Rattle.pmsi_tool.proofs.answer.answer_of.Goals as goal
 pub returns-in_err-asked-clause-complaint : goal.returns-in_err-asked-clause-complaint
 returns-in_err-asked-clause-complaint g c =
     let stands : Stands tool_call (map (string_bytes {Z = Global}) c.args.words.now)
-    (files_call (g.F.Files.contents c.args.files.now) (g.F.Files.faults c.args.files.now) (g.F.Files.faults c.args.files.now) (g.F.Files.blamed c.args.files.now)) c.in_err-asked.field-0 =
-    unasked tool_call (map (string_bytes {Z = Global}) c.args.words.now) _ c.in_err-asked.field-0 c.in_err-asked.ensures.complaint in
+    (files_call (g.F.Files.contents c.args.files.now) (g.F.Files.faults c.args.files.now) (g.F.Files.faults c.args.files.now) (g.F.Files.blamed c.args.files.now)) c.in_err-asked.field-0.0 =
+    unasked tool_call (map (string_bytes {Z = Global}) c.args.words.now) _ c.in_err-asked.field-0.0 c.in_err-asked.ensures.complaint in
     search (rules, stands)
 
 pub returns-clause-text : goal.returns-clause-text
