@@ -176,7 +176,7 @@ fn runs_alike<R: Abort + Threads + Wait + Sync>(
 
 #[test]
 fn threads_reach_the_machine_of_one(rt: HostRuntime) -> Result<(), Fail> {
-    for seed in 0..32 {
+    for seed in 0..300 {
         let mut dice = Dice { state: seed };
         let shape = some_shape(&mut dice);
         let texts = texts(rt.alloc(), &mut dice, shape.cores)?;
