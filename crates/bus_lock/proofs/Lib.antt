@@ -4,4 +4,3 @@ pub mod LockTries
 pub mod LockReleases
 pub mod SeatLists
 pub mod Seatings
-pub mod TestSeats

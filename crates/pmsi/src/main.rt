@@ -7,6 +7,8 @@ use pmsi_tool::{ToolStatus, tell_no_memory, tool, tool_threads};
 use std::alloc::AllocError;
 use std::env;
 use std::process::ExitCode;
+use std::sync::Wait;
+use std::thread::Threads;
 
 /// The words after the program's name: none where one isn't UTF-8.
 fn words(rt: &HostRuntime) -> Result<Vec<String>, AllocError> {
@@ -20,8 +22,8 @@ fn words(rt: &HostRuntime) -> Result<Vec<String>, AllocError> {
     Ok(words)
 }
 
-/// The call that serves the words, on the real files and streams.
-fn call(rt: &HostRuntime, words: &[String]) -> ToolStatus {
+/// The call that serves the words, on the real files and streams. `threads` is the leave to start threads and to wait.
+fn call<T: Threads + Wait + Sync>(rt: &HostRuntime, threads: &T, words: &[String]) -> ToolStatus {
     let alloc = rt.alloc();
     let mut files = DiskFiles::new(rt);
     let mut out = StdSink::new(rt.stdout());
@@ -29,19 +31,19 @@ fn call(rt: &HostRuntime, words: &[String]) -> ToolStatus {
     match words.first() {
         Some(word) if word.as_str() == "sim" => {
             let gate = OpenGate::new();
-            tool_threads(rt, alloc, words, &mut files, &mut out, &mut err, &gate)
+            tool_threads(threads, alloc, words, &mut files, &mut out, &mut err, &gate)
         }
         _ => tool(alloc, words, &mut files, &mut out, &mut err),
     }
 }
 
-fn run(rt: &HostRuntime) -> ToolStatus {
+fn run<T: Threads + Wait + Sync>(rt: &HostRuntime, threads: &T) -> ToolStatus {
     match words(rt) {
-        Ok(words) => call(rt, &words),
+        Ok(words) => call(rt, threads, &words),
         Err(AllocError) => tell_no_memory(&mut StdSink::new(rt.stderr())),
     }
 }
 
 fn main(rt: HostRuntime) -> ExitCode {
-    ExitCode::from(run(&rt) as u8)
+    ExitCode::from(run(&rt, &rt) as u8)
 }
