@@ -4,3 +4,4 @@ pub mod LockTries
 pub mod LockReleases
 pub mod SeatLists
 pub mod Seatings
+pub mod TestSeats
