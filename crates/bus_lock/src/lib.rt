@@ -12,6 +12,3 @@ mod view;
 
 pub use seat::{BusSeat, SharedBus};
 pub use trying::Met;
-
-#[cfg(test)]
-mod tests;
