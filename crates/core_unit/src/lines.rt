@@ -23,6 +23,7 @@ impl Model for LineSet {
 }
 
 impl LineSet {
+    /// A set without lines. It takes no memory.
     pub fn new() -> LineSet
         ensures { result ≡ [] }
     {
@@ -42,6 +43,7 @@ impl LineSet {
         LineSet { items }
     }
 
+    /// Whether the line is there.
     pub fn contains(&self, line: u32) -> bool
         ensures { result ≡ has_line line self.now }
     {

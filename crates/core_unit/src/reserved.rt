@@ -40,6 +40,7 @@ impl<T> ReservedList<T> {
         self.items.push_reserved(item);
     }
 
+    /// The items, in the order in which they came.
     pub fn as_slice(&self) -> &[T]
         ensures { result.now ≡ self.now.items }
     {

@@ -87,12 +87,14 @@ impl Core {
         })
     }
 
+    /// The core's number, below the number of cores.
     pub fn number(&self) -> u32
         ensures { result ≡ self.now.number }
     {
         self.state.number
     }
 
+    /// The job's shape.
     pub fn shape(&self) -> Geometry
         ensures value { result ≡ self.now.shape }
         ensures within { IsGeometry result }
@@ -121,6 +123,7 @@ impl Core {
         self.state.phase_done
     }
 
+    /// What a register holds; x0 holds 0.
     pub fn reg(&self, r: Reg) -> u32
         ensures { result ≡ reg_of self.now.regs r }
     {
@@ -134,12 +137,14 @@ impl Core {
         self.state.regs.as_slice()
     }
 
+    /// The address, in bytes, of the next instruction, or of the one that halted the core.
     pub fn pc(&self) -> u32
         ensures { result ≡ self.now.pc }
     {
         self.state.pc
     }
 
+    /// Whether the core runs, or what halted it.
     pub fn status(&self) -> Status
         ensures { result ≡ self.now.status }
     {
@@ -160,6 +165,7 @@ impl Core {
         &self.state.pending
     }
 
+    /// The core's cache.
     pub fn cache(&self) -> &CacheArray
         ensures { result.now ≡ self.now.cache }
     {

@@ -8,6 +8,7 @@ use pmsi_model::{Kind, OpenRow, Row};
 use std::alloc::AllocError;
 use text_out::{push_field, push_newline, push_number, push_text};
 
+/// The kind as listings spell it.
 pub fn kind_name(kind: Kind) -> &'static str
     ensures { result.now ≡ kind_text kind }
 {

@@ -48,6 +48,7 @@ impl<'a> Model for Rest<'a> {
 }
 
 impl<'a> Rest<'a> {
+    /// What a core has done, from its first slot on.
     pub fn new(rows: &'a [Row], touches: &'a [Touch]) -> Rest<'a>
         ensures { result ≡ record { rows = rows.now; touches = touches.now } }
     {

@@ -55,6 +55,7 @@ impl SharedMemory {
         })
     }
 
+    /// The job's shape.
     pub fn shape(&self) -> Geometry
         ensures shape { result ≡ self.now.shape }
         ensures shared { IsShared self.now }
@@ -158,6 +159,7 @@ impl SharedMemory {
         self.words.write_line(line, words);
     }
 
+    /// An equal memory.
     pub fn copy(&self, alloc: Global) -> Result<SharedMemory, NoMemory>
         ensures { IfOk result (λ m. m ≡ self.now) }
     {

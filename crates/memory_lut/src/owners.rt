@@ -60,6 +60,7 @@ impl Owners {
         }
     }
 
+    /// Equal owners.
     pub fn copy(&self, alloc: Global) -> Result<Owners, NoMemory>
         ensures { IfOk result (λ o. o ≡ self.now) }
     {

@@ -138,6 +138,7 @@ fn queued_in(entries: &[Entry], line: u32) -> Behind
 }
 
 impl Requests {
+    /// A list without requests. It takes no memory.
     pub fn new() -> Requests
         ensures { result ≡ [] }
     {

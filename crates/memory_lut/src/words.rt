@@ -44,6 +44,7 @@ impl MemoryWords {
         Ok(MemoryWords { items })
     }
 
+    /// The word at a place, counted in words from 0.
     pub fn word(&self, place: usize) -> u32
         requires { place < length self.now }
         ensures { result ≡ slice_index self.now place }
@@ -74,6 +75,7 @@ impl MemoryWords {
         self.items[start..start + words.len()].copy_from_slice(words);
     }
 
+    /// Equal words.
     pub fn copy(&self, alloc: Global) -> Result<MemoryWords, NoMemory>
         ensures { IfOk result (λ m. m ≡ self.now) }
     {

@@ -32,6 +32,7 @@ impl Model for Image {
 impl Image {
     ghost use Rattle.pmsi_model.specs.Image.{IsImage};
 
+    /// An image of a text, in words, and pieces by rising address, with a gap between each two.
     pub fn new(text: Words, pieces: Pieces) -> Image
         requires { IsImage (record { text = text; pieces = pieces }) }
         ensures { result ≡ record { text = text; pieces = pieces } }
@@ -39,6 +40,7 @@ impl Image {
         Image { text, pieces }
     }
 
+    /// The text, in words; the first stands at address 0.
     pub fn text(&self) -> &[u32]
         ensures text { result.now ≡ self.now.text }
         ensures image { IsImage self.now }
@@ -46,6 +48,7 @@ impl Image {
         self.text.as_slice()
     }
 
+    /// The pieces of data, by rising address.
     pub fn pieces(&self) -> &[Piece]
         ensures pieces { result.now ≡ self.now.pieces }
         ensures image { IsImage self.now }

@@ -20,6 +20,7 @@ impl Model for Reg {
 }
 
 impl Reg {
+    /// The register of this number, 0 to 31.
     pub fn new(number: u8) -> Reg
         requires { number < 32 }
         ensures { result ≡ number }
@@ -27,6 +28,7 @@ impl Reg {
         Reg(number)
     }
 
+    /// The register's number, 0 to 31.
     pub fn index(self) -> u8
         ensures number { result ≡ self }
         ensures within { result < 32 }

@@ -89,6 +89,7 @@ impl Model for Job {
 impl Job {
     ghost use Rattle.pmsi_model.specs.Job.{IsJob, text_of};
 
+    /// A job: its shape, a text for each core, and the bytes that memory holds at the start.
     pub fn new(shape: Geometry, texts: WordLists, start: Bytes) -> Job
         requires { IsJob (record { shape = shape; texts = texts; start = start }) }
         ensures { result ≡ record { shape = shape; texts = texts; start = start } }
@@ -100,6 +101,7 @@ impl Job {
         }
     }
 
+    /// The numbers of the job: cores, quantum, cache, memory, slots.
     pub fn shape(&self) -> Geometry
         ensures shape { result ≡ self.now.shape }
         ensures within { IsJob self.now }

@@ -125,6 +125,7 @@ impl AccessOp {
         }
     }
 
+    /// A load is a read; a store is a write, and so is an atomic operation, which does both.
     pub fn kind(self) -> Kind
         ensures { result ≡ kind_of self }
     {

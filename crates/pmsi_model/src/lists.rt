@@ -23,12 +23,14 @@ impl<T> Model for Sequence<T> {
 }
 
 impl<T> Sequence<T> {
+    /// The list of these items, without a copy.
     pub fn from_vec(items: Vec<T>) -> Sequence<T>
         ensures { result ≡ items.items }
     {
         Sequence { items }
     }
 
+    /// The items again, without a copy.
     pub fn into_vec(self) -> Vec<T>
         ensures { result.items ≡ self }
     {
@@ -36,6 +38,7 @@ impl<T> Sequence<T> {
         items
     }
 
+    /// The items, in order.
     pub fn as_slice(&self) -> &[T]
         ensures { result.now ≡ self.now }
     {
@@ -71,12 +74,14 @@ impl Model for Utf8Text {
 }
 
 impl Utf8Text {
+    /// The text of this string, without a copy.
     pub fn from_string(text: String) -> Utf8Text
         ensures { result ≡ string_bytes text }
     {
         Utf8Text { text }
     }
 
+    /// The string again, without a copy.
     pub fn into_string(self) -> String
         ensures { string_bytes result ≡ self }
     {
@@ -84,6 +89,7 @@ impl Utf8Text {
         text
     }
 
+    /// The text as a string slice.
     pub fn as_str(&self) -> &str
         ensures { result.now ≡ self.now }
     {

@@ -106,6 +106,7 @@ impl Sim {
         self.bus.slot()
     }
 
+    /// The job's shape.
     pub fn shape(&self) -> Geometry
         ensures value { result ≡ shape_of self.now }
         ensures within { IsGeometry result }
