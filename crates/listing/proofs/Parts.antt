@@ -11,11 +11,10 @@ use Rattle.pmsi_model.specs.declared.Row.{Row}
 use Rattle.pmsi_model.specs.Job.{JobValue}
 use Rattle.pmsi_model.specs.Slots.{SlotPlan, bound_of, plan_of}
 use Rattle.pmsi_model.specs.Lines.{held_text, held_line, shape_line, row_line, open_row_line, bound_line}
-use Rattle.pmsi_model.specs.Listing.{core_text, core_texts, memory_texts, waits_texts, trace_text, touches_text, listing_of}
+use Rattle.pmsi_model.specs.Listing.{core_text, core_texts, memory_texts, waits_texts, trace_text, touches_text, listing_of, summary_of}
 use Rattle.pmsi_model.specs.Rows.{rows_of, open_rows_in}
 use Rattle.pmsi_model.specs.Machine.{CoreState, Machine}
 use Rattle.pmsi_model.specs.Run.{machine_at}
-use Rattle.listing.specs.Summary.{summary_of}
 use Rattle.text_out.proofs.Grown.{grown}
 
 -- ---- held lines

@@ -3,4 +3,3 @@ pub mod Waits
 pub mod Rests
 pub mod Pieces
 pub mod Asked
-pub mod Summary

@@ -1,10 +1,9 @@
 //! The whole listing, and the summary.
 ghost use Rattle.std.specs.Prelude.{◌≡◌, ◌++◌, OnOk, IfOk};
 ghost use Rattle.pmsi_model.specs.Job.{JobValue};
-ghost use Rattle.pmsi_model.specs.Listing.{listing_of};
+ghost use Rattle.pmsi_model.specs.Listing.{listing_of, summary_of};
 ghost use Rattle.sim_serial.specs.Sims.{IsSimOf, shape_of, slot_of};
 ghost use Rattle.listing.specs.Asked.{KeepsAsked};
-ghost use Rattle.listing.specs.Summary.{summary_of};
 
 use crate::cores::push_shape_line;
 use crate::merge::{push_rows, push_touches};

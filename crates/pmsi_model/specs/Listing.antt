@@ -54,3 +54,7 @@ listing_of job keep =
     ++ trace_text job keep
     ++ touches_text job keep
     ++ codes "end\n"
+
+-- the summary of a run: of the listing's lines those of the shape, of the cores' waits at the end of the run, and of the bound
+unfoldable pub summary_of : JobValue → List ℕ
+summary_of job = shape_line job.shape ++ waits_texts (rows_of job job.shape.slots) job.shape.cores ++ bound_line (bound_of (plan_of job))
