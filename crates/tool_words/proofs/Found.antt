@@ -9,15 +9,18 @@ use Rattle.clap.specs.declared.error.kind.ErrorKind.{ErrorKind}
 use Rattle.clap.specs.declared.error.kind.ErrorKind.TheVariants.{OutOfMemory}
 use Rattle.clap.proofs.WalkLemmas.{both}
 use Rattle.tool_words.specs.declared.table.Command.{Command}
-use Rattle.tool_words.specs.declared.table.Command.TheVariants.{Run, Sim, Asm, Dis, Image}
+use Rattle.tool_words.specs.declared.table.Command.TheVariants.{Run, Sim, Trace, Asm, Dis, Image, Gen, Debug}
 use Rattle.tool_words.specs.Clap.{app_for, found_where, found_in, with_choices, with_places, choice_rule, place_rule}
 
 is_simple_line : (command : Command) → is_simple_and_free (app_for command) ≡ true
 is_simple_line Run = refl
 is_simple_line Sim = refl
+is_simple_line Trace = refl
 is_simple_line Asm = refl
 is_simple_line Dis = refl
 is_simple_line Image = refl
+is_simple_line Gen = refl
+is_simple_line Debug = refl
 
 pub taken : {X : Type 0} (command : Command) (a : App) (words : List Text) (rows : List Row) → a ≡ app_for command
     → (is_simple_and_free a ≡ true → fault_of a words ≡ []) → (is_simple a ≡ true → (rows ≡ matches_of a words) × X)

@@ -12,7 +12,7 @@ use Rattle.std.specs.Option.{option_map_or}
 use Rattle.std.specs.Str.{bytes_eq}
 use Rattle.std.proofs.lemmas.Slice.Eq.{bytes_eq-Decides}
 use Rattle.tool_words.specs.declared.table.Choice.{Choice}
-use Rattle.tool_words.specs.declared.table.Choice.TheVariants.{Workers, Trace, Touches}
+use Rattle.tool_words.specs.declared.table.Choice.TheVariants as choice
 use Rattle.tool_words.specs.declared.table.Place.{Place}
 use Rattle.tool_words.specs.Table.{choice_id, place_id}
 use Rattle.tool_words.specs.Clap.{choice_rule, place_rule, found_where}
@@ -63,17 +63,23 @@ abbrev pub place_filled : ℕ → Place → Rule
 place_filled n place = with_index n (filled (place_rule place))
 
 flag_long : (choice : Choice) → long_of (flag choice) ≡ Some (choice_id choice, None)
-flag_long Workers = refl
-flag_long Trace = refl
-flag_long Touches = refl
+flag_long choice.Workers = refl
+flag_long choice.Trace = refl
+flag_long choice.Touches = refl
+flag_long choice.Cores = refl
+flag_long choice.Slots = refl
+flag_long choice.Run = refl
 
 same_id : (id : Text) → bytes_eq id id ≡ true
 same_id id = (bytes_eq-Decides id id).1 refl
 
 not_dashes : (choice : Choice) → bytes_eq (flag choice) (45 ∷ 45 ∷ []) ≡ false
-not_dashes Workers = refl
-not_dashes Trace = refl
-not_dashes Touches = refl
+not_dashes choice.Workers = refl
+not_dashes choice.Trace = refl
+not_dashes choice.Touches = refl
+not_dashes choice.Cores = refl
+not_dashes choice.Slots = refl
+not_dashes choice.Run = refl
 
 nothing_more : (kinds : Kinds) → or_else kinds [] ≡ kinds
 nothing_more [] = refl

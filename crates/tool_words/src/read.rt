@@ -4,14 +4,15 @@ ghost use Rattle.std.specs.Char.{is_ascii_digit};
 ghost use Rattle.std.specs.List.{list_all};
 ghost use Rattle.clap.specs.Words.{app_of, kind_of, rule_of};
 ghost use Rattle.tool_words.specs.Clap.{IsFoundIn, app_for, choice_rule, chosen, place_rule, placed};
-ghost use Rattle.pmsi_model.specs.declared.limits.TheConstants.{MAX_WORKERS};
-ghost use Rattle.tool_words.specs.Meaning.{HasWorkers, answer_in, is_number, keep_in, meaning, number_of, value_of, values_in, within, workers_in};
+ghost use Rattle.tool_words.specs.Meaning.{IsAllowed, answer_in, is_number, keep_in, meaning, number_in, number_of, value_of, values_in, within};
 
 use crate::asked::Asked;
-use crate::table::{Choice, Command, DEFAULT_WORKERS, Place, command_named};
+use crate::table::{
+    Choice, Command, DEFAULT_CORES, DEFAULT_SLOTS, DEFAULT_WORKERS, Place, command_named,
+};
 use clap::error::ErrorKind;
 use clap::{Arg, ArgAction, ArgMatches, Error};
-use pmsi_model::limits::MAX_WORKERS;
+use pmsi_model::limits::{MAX_CORES, MAX_SLOTS, MAX_WORKERS};
 use pmsi_model::{Keep, NoMemory};
 use std::alloc::{AllocError, Global};
 
@@ -128,14 +129,16 @@ fn number(text: &str, least: u32, most: u32) -> Option<u32>
     }
 }
 
-/// The threads that work.
-fn workers(text: Option<&str>) -> Option<u32>
-    ensures value { result ≡ workers_in (option_map (λ text. text.now) text.entry) }
-    ensures within { IfSome result (λ workers. (1 ≤ workers) × (workers ≤ MAX_WORKERS)) }
+/// The number of an option, or what stands where it isn't given.
+fn number_or(default: u32, least: u32, most: u32, text: Option<&str>) -> Option<u32>
+    requires least { least ≤ default }
+    requires most { default ≤ most }
+    ensures value { result ≡ number_in default least most (option_map (λ text. text.now) text.entry) }
+    ensures within { IfSome result (λ number. (least ≤ number) × (number ≤ most)) }
 {
     match text {
-        None => Some(DEFAULT_WORKERS),
-        Some(text) => number(text, 1, MAX_WORKERS),
+        None => Some(default),
+        Some(text) => number(text, least, most),
     }
 }
 
@@ -163,14 +166,17 @@ fn keep(found: &ArgMatches) -> Option<Keep>
 /// The values of a command.
 fn values<'a>(command: Command, found: &ArgMatches<'a>) -> Option<Asked<'a>>
     ensures value { option_map value_of result ≡ values_in command (chosen found.now) (placed found.now) }
-    ensures workers { IfSome result HasWorkers }
+    ensures allowed { IfSome result IsAllowed }
 {
     match command {
         Command::Run => run(found),
         Command::Sim => sim(found),
+        Command::Trace => Some(Asked::Trace(place(found, Place::Job)?)),
         Command::Asm => Some(Asked::Asm(place(found, Place::Source)?)),
         Command::Dis => Some(Asked::Dis(place(found, Place::Image)?)),
         Command::Image => Some(Asked::Image(place(found, Place::Image)?)),
+        Command::Gen => made(found),
+        Command::Debug => debug(found),
     }
 }
 
@@ -184,19 +190,48 @@ fn run<'a>(found: &ArgMatches<'a>) -> Option<Asked<'a>>
 
 fn sim<'a>(found: &ArgMatches<'a>) -> Option<Asked<'a>>
     ensures value { option_map value_of result ≡ values_in Command.Sim (chosen found.now) (placed found.now) }
-    ensures workers { IfSome result HasWorkers }
+    ensures allowed { IfSome result IsAllowed }
 {
-    let workers = workers(choice(found, Choice::Workers))?;
+    let workers = number_or(
+        DEFAULT_WORKERS,
+        1,
+        MAX_WORKERS,
+        choice(found, Choice::Workers),
+    )?;
     let keep = keep(found)?;
     let job = place(found, Place::Job)?;
     Some(Asked::Sim { workers, keep, job })
+}
+
+fn made<'a>(found: &ArgMatches<'a>) -> Option<Asked<'a>>
+    ensures value { option_map value_of result ≡ values_in Command.Gen (chosen found.now) (placed found.now) }
+    ensures allowed { IfSome result IsAllowed }
+{
+    let cores = number_or(DEFAULT_CORES, 1, MAX_CORES, choice(found, Choice::Cores))?;
+    let slots = number_or(DEFAULT_SLOTS, 0, MAX_SLOTS, choice(found, Choice::Slots))?;
+    let run = answer(choice(found, Choice::Run))?;
+    let seed = number(place(found, Place::Seed)?, 0, u32::MAX)?;
+    Some(Asked::Gen {
+        seed,
+        cores,
+        slots,
+        run,
+    })
+}
+
+fn debug<'a>(found: &ArgMatches<'a>) -> Option<Asked<'a>>
+    ensures { option_map value_of result ≡ values_in Command.Debug (chosen found.now) (placed found.now) }
+{
+    let job = place(found, Place::Job)?;
+    let script = place(found, Place::Script)?;
+    Some(Asked::Debug { job, script })
 }
 
 /// What the words ask for, the program's name not among them. None where they name no command, where clap refuses them for
 /// another cause than memory, `--help` and `-h` included, and where an option's value is none that it may have.
 pub fn asked_of<'a>(alloc: Global, words: &'a [String]) -> Result<Option<Asked<'a>>, NoMemory>
     ensures value { IfOk result (λ asked. option_map value_of asked ≡ meaning (map string_bytes words.now)) }
-    ensures workers { IfOk result (λ asked. IfSome asked HasWorkers) }
+    ensures allowed { IfOk result (λ asked. IfSome asked IsAllowed) }
 {
     let Some(word) = words.first() else {
         return Ok(None);

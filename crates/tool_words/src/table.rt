@@ -6,14 +6,23 @@ ghost use Rattle.tool_words.specs.Table.{choice_id, choices_of, place_id, places
 /// The threads that simulate a job where the words don't say how many.
 pub const DEFAULT_WORKERS: u32 = 2;
 
+/// The cores of a made job where the words don't say how many.
+pub const DEFAULT_CORES: u32 = 4;
+
+/// The slots of a made job where the words don't say how many.
+pub const DEFAULT_SLOTS: u32 = 20_000;
+
 /// A command, which the first word names.
 #[derive(Clone, Copy, Debug, PartialEq, Eq)]
 pub enum Command {
     Run,
     Sim,
+    Trace,
     Asm,
     Dis,
     Image,
+    Gen,
+    Debug,
 }
 
 /// An option, which takes one value.
@@ -22,6 +31,9 @@ pub enum Choice {
     Workers,
     Trace,
     Touches,
+    Cores,
+    Slots,
+    Run,
 }
 
 /// A positional, which must be there.
@@ -30,6 +42,8 @@ pub enum Place {
     Job,
     Source,
     Image,
+    Seed,
+    Script,
 }
 
 /// The command that this word names.
@@ -39,9 +53,12 @@ pub(crate) fn command_named(word: &str) -> Option<Command>
     match word {
         "run" => Some(Command::Run),
         "sim" => Some(Command::Sim),
+        "trace" => Some(Command::Trace),
         "asm" => Some(Command::Asm),
         "dis" => Some(Command::Dis),
         "image" => Some(Command::Image),
+        "gen" => Some(Command::Gen),
+        "debug" => Some(Command::Debug),
         _ => None,
     }
 }
@@ -53,9 +70,12 @@ impl Command {
         match self {
             Command::Run => "run",
             Command::Sim => "sim",
+            Command::Trace => "trace",
             Command::Asm => "asm",
             Command::Dis => "dis",
             Command::Image => "image",
+            Command::Gen => "gen",
+            Command::Debug => "debug",
         }
     }
 
@@ -65,7 +85,8 @@ impl Command {
         match self {
             Command::Run => &[Choice::Trace, Choice::Touches],
             Command::Sim => &[Choice::Workers, Choice::Trace, Choice::Touches],
-            Command::Asm | Command::Dis | Command::Image => &[],
+            Command::Gen => &[Choice::Cores, Choice::Slots, Choice::Run],
+            Command::Trace | Command::Asm | Command::Dis | Command::Image | Command::Debug => &[],
         }
     }
 
@@ -73,9 +94,11 @@ impl Command {
         ensures { result.now ≡ places_of self }
     {
         match self {
-            Command::Run | Command::Sim => &[Place::Job],
+            Command::Run | Command::Sim | Command::Trace => &[Place::Job],
             Command::Asm => &[Place::Source],
             Command::Dis | Command::Image => &[Place::Image],
+            Command::Gen => &[Place::Seed],
+            Command::Debug => &[Place::Job, Place::Script],
         }
     }
 }
@@ -88,6 +111,9 @@ impl Choice {
             Choice::Workers => "workers",
             Choice::Trace => "trace",
             Choice::Touches => "touches",
+            Choice::Cores => "cores",
+            Choice::Slots => "slots",
+            Choice::Run => "run",
         }
     }
 }
@@ -100,6 +126,8 @@ impl Place {
             Place::Job => "job",
             Place::Source => "source",
             Place::Image => "image",
+            Place::Seed => "seed",
+            Place::Script => "script",
         }
     }
 }

@@ -28,6 +28,15 @@ fn sim(workers: u32, trace: bool, touches: bool, job: &str) -> Option<Asked> {
     Some(Asked::Sim { workers, keep, job })
 }
 
+fn made(seed: u32, cores: u32, slots: u32, run: bool) -> Option<Asked<'static>> {
+    Some(Asked::Gen {
+        seed,
+        cores,
+        slots,
+        run,
+    })
+}
+
 #[test]
 fn canonical_words(rt: HostRuntime) {
     let alloc = rt.alloc();
@@ -57,6 +66,28 @@ fn canonical_words(rt: HostRuntime) {
                 "a",
             ],
             sim(16, true, false, "a"),
+        ),
+        (&["trace", "a"], Some(Asked::Trace("a"))),
+        (&["gen", "7"], made(7, 4, 20_000, false)),
+        (
+            &[
+                "gen",
+                "--cores",
+                "16",
+                "--slots",
+                "0",
+                "--run",
+                "yes",
+                "4294967295",
+            ],
+            made(4_294_967_295, 16, 0, true),
+        ),
+        (
+            &["debug", "a", "b"],
+            Some(Asked::Debug {
+                job: "a",
+                script: "b",
+            }),
         ),
         (&["asm", "a.s"], Some(Asked::Asm("a.s"))),
         (&["dis", "a.img"], Some(Asked::Dis("a.img"))),
@@ -89,6 +120,10 @@ fn other_words_with_a_meaning(rt: HostRuntime) {
         ),
         (&["run", "--", "-h"], run(false, false, "-h")),
         (&["run", ""], run(false, false, "")),
+        (
+            &["gen", "0000000007", "--slots=1000000"],
+            made(7, 4, 1_000_000, false),
+        ),
         (&["asm", "--", "--"], Some(Asked::Asm("--"))),
         (&["dis", "-"], Some(Asked::Dis("-"))),
     ] {
@@ -129,6 +164,17 @@ fn words_without_a_meaning(rt: HostRuntime) {
         &["sim", "--workers", "two", "a"],
         &["sim", "--workers=", "a"],
         &["sim", "--workers", "2", "--workers", "2", "a"],
+        &["trace", "--touches", "yes", "a"],
+        &["gen"],
+        &["gen", "4294967296"],
+        &["gen", "00000000007"],
+        &["gen", "seed"],
+        &["gen", "--cores", "0", "7"],
+        &["gen", "--cores", "17", "7"],
+        &["gen", "--slots", "1000001", "7"],
+        &["gen", "--run", "on", "7"],
+        &["debug", "a"],
+        &["debug", "a", "b", "c"],
         &["asm"],
         &["asm", "--trace", "yes", "a.s"],
         &["dis", "a.img", "b.img"],
