@@ -1,7 +1,7 @@
 -- What is read as a trace is the text of that trace.
-use Rattle.std.proofs.Common.{◌≡◌, ◌⊎◌, inl, inr, ℕ, ◌+◌, ◌^◌, ◌<◌, ◌≤◌, ◌%◌, List, [], ◌∷◌, ◌++◌, length, Option, Some, None, Result, Ok, Err, Bool, true, false, refl, sym, ap, ◌∙◌, subst, append_assoc, append-nil, length-append, arith, rules, codes, decimal, add-zero, zero-add}
-use Rattle.std.specs.Prelude.{nat_le, ◌&&◌, if◌then◌else◌}
-use Rattle.std.specs.List.{All, AllByRecursion, join_with_byte, slice_split}
+use Rattle.std.proofs.Common.{◌≡◌, ◌⊎◌, inl, inr, ℕ, ◌+◌, ◌<◌, ◌≤◌, ◌%◌, List, [], ◌∷◌, ◌++◌, length, Option, Some, None, Result, Ok, Err, Bool, true, false, refl, sym, ap, ◌∙◌, subst, append_assoc, append-nil, length-append, arith, codes, decimal}
+use Rattle.std.specs.Prelude.{nat_le, if◌then◌else◌}
+use Rattle.std.specs.List.{AllByRecursion, join_with_byte, slice_split}
 use Rattle.std.specs.Option.{option_map}
 use Rattle.std.specs.Str.{bytes_eq}
 use Rattle.std.proofs.lemmas.Bool.Decides.{nat_tests}
@@ -15,12 +15,12 @@ use Rattle.pmsi_model.specs.declared.limits.TheConstants.{MAX_CORES, MAX_SLOTS}
 use Rattle.pmsi_model.specs.Lines.{action_line, action_lines, action_text, kept_text, name_text}
 use Rattle.pmsi_model.specs.Slots.{plain_plan}
 use Rattle.trace_text.specs.declared.fault.TraceFault.{TraceFault}
-use Rattle.trace_text.specs.declared.fault.TraceFault.TheVariants.{Line, End}
+use Rattle.trace_text.specs.declared.fault.TraceFault.TheVariants.{Line}
 use Rattle.trace_text.specs.declared.row.Row.{Row}
 use Rattle.trace_text.specs.declared.row.Row.TheVariants as row
 use Rattle.trace_text.specs.declared.trace.Trace.{Trace}
 use Rattle.trace_text.specs.Text.{HasLine, IsTrace, end_text, greatest_line, trace_of}
-use Rattle.trace_text.specs.Reading.{action_in, both, cores_first, cores_in, ended, fields_of, fill_in, first_line, idle_in, if_some_core, is_last, is_newline, is_space, kept_in, long_in, name_in, number_in, on_line, on_row, reading_of, row_in, rows_in, version_first, with_cores}
+use Rattle.trace_text.specs.Reading.{action_in, both, cores_first, cores_in, ended, fields_of, fill_in, idle_in, if_some_core, is_newline, kept_in, long_in, name_in, number_in, on_row, reading_of, row_in, rows_in, version_first, with_cores}
 use Rattle.trace_text.proofs.RowParts.{TellsAction, tells_action, tells_end}
 use Rattle.trace_text.proofs.Spellings.{is_text, line_is, number_spelled, slot_text}
 

@@ -1,16 +1,15 @@
 -- Numbers as they are spelled.
-use Rattle.std.proofs.Common.{◌≡◌, ℕ, ◌^◌, ◌<◌, ◌≤◌, ◌&&◌, true, false, List, [], ◌∷◌, length, Option, None, Some, Result, Ok, Err, refl, sym, subst, rules, arith}
+use Rattle.std.proofs.Common.{◌≡◌, ℕ, ◌^◌, ◌<◌, true, false, List, [], ◌∷◌, length, None, Result, Err, refl, subst, rules, arith}
 use Rattle.std.specs.Char.{is_ascii_digit}
 use Rattle.std.specs.List.{list_all}
 use Rattle.std.specs.Prelude.{nat_le}
-use Rattle.std.specs.Result.{OkIff}
 use Rattle.std.specs.Str.{IsUtf8}
 use Rattle.std.specs.Str.Parse.{ParsesUnsigned, digits_value}
 use Rattle.std.proofs.lemmas.Bool.Decides.{nat_tests}
 use Rattle.std.proofs.lemmas.Fmt.{IsAscii-from_digits}
 use Rattle.std.proofs.lemmas.Str.{IsUtf8-from_ascii}
 use Rattle.std.proofs.lemmas.Str.Parse.{IsNumeralModel, numerals_by_value, parse_digits}
-use Rattle.trace_text.specs.Reading.{has_plain_start, is_numeral, number_in}
+use Rattle.trace_text.specs.Reading.{is_numeral, number_in}
 
 abbrev pub AreDigits : List ℕ → Type 0
 AreDigits field = list_all is_ascii_digit field ≡ true

@@ -1,16 +1,10 @@
 -- The lines of slots, one after another.
-use Rattle.std.proofs.Common.{◌≡◌, ℕ, ◌+◌, ◌<◌, ◌≤◌, List, [], ◌∷◌, ◌++◌, length, Option, Some, None, Result, Ok, Err, Bool, true, false, refl, sym, ap, ◌∙◌, subst, arith, codes}
-use Rattle.std.specs.Prelude.{nat_le, ◌&&◌}
-use Rattle.std.specs.Str.{bytes_eq}
-use Rattle.std.proofs.lemmas.Bool.Decides.{nat_tests}
+use Rattle.std.proofs.Common.{◌≡◌, ℕ, ◌<◌, List, [], ◌∷◌, ◌++◌, length, Some, None, Ok, Err, refl, ap, arith}
 use Rattle.pmsi_model.specs.declared.Action.{Action}
-use Rattle.pmsi_model.specs.declared.limits.TheConstants.{MAX_SLOTS}
 use Rattle.trace_text.specs.declared.fault.TraceFault.{TraceFault}
-use Rattle.trace_text.specs.declared.fault.TraceFault.TheVariants.{Line, Order, End}
-use Rattle.trace_text.specs.declared.row.Row.{Row}
+use Rattle.trace_text.specs.declared.fault.TraceFault.TheVariants.{End}
 use Rattle.trace_text.specs.declared.row.Row.TheVariants as row
-use Rattle.trace_text.specs.declared.trace.Trace.{Trace}
-use Rattle.trace_text.specs.Reading.{action_in, end_row, ended, fields_of, first_line, is_last, is_numeral, line_of_slot, on_row, row_in, rows_in, slot_row}
+use Rattle.trace_text.specs.Reading.{ended, fields_of, first_line, row_in, rows_in}
 
 -- ---- one line
 

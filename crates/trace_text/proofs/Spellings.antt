@@ -1,8 +1,8 @@
 -- How lines are spelled, without their newlines, and the fields that they have.
-use Rattle.std.proofs.Common.{◌≡◌, ℕ, zero, suc, ◌+◌, ◌^◌, ◌<◌, ◌≤◌, ◌%◌, List, [], ◌∷◌, ◌++◌, length, get_or, Option, Some, None, Bool, true, false, not, refl, sym, ap, ◌∙◌, subst, append_assoc, arith, rules, codes, decimal}
+use Rattle.std.proofs.Common.{◌≡◌, ℕ, zero, suc, ◌^◌, ◌<◌, ◌≤◌, List, [], ◌∷◌, ◌++◌, length, get_or, Some, None, Bool, true, false, not, refl, sym, ap, ◌∙◌, subst, append_assoc, arith, codes, decimal}
 use Rattle.std.specs.Prelude.{◌==◌, ◌&&◌, nat_le, if◌then◌else◌}
 use Rattle.std.specs.Char.{is_ascii_digit}
-use Rattle.std.specs.List.{All, join_with_byte, list_all, slice_split}
+use Rattle.std.specs.List.{All, list_all, slice_split}
 use Rattle.std.specs.Str.{bytes_eq}
 use Rattle.std.specs.Str.Parse.{digits_value}
 use Rattle.std.proofs.lemmas.Bool.Decides.{nat_tests}
@@ -17,7 +17,7 @@ use Rattle.pmsi_model.specs.declared.Name.{Name}
 use Rattle.pmsi_model.specs.declared.Name.TheVariants.{GetS, GetM, Upg}
 use Rattle.pmsi_model.specs.Lines.{action_line, action_text, kept_text, name_text}
 use Rattle.trace_text.specs.Text.{HasLine, greatest_line}
-use Rattle.trace_text.specs.Reading.{action_in, fields_of, has_plain_start, is_newline, is_numeral, is_space, kept_in, name_in, number_in, idle_in, fill_in, long_in}
+use Rattle.trace_text.specs.Reading.{action_in, fields_of, has_plain_start, is_numeral, is_space, kept_in, name_in, number_in, idle_in, fill_in, long_in}
 use Rattle.trace_text.proofs.Numerals.{AreDigits, are_digits, own, some_digit}
 
 -- ---- parts without a mark

@@ -17,4 +17,4 @@ mod writing;
 pub use fault::TraceFault;
 pub use reading::read_trace;
 pub use trace::{Actions, Trace};
-pub use writing::write_trace;
+pub use writing::{push_action_line, write_actions, write_trace};

@@ -16,19 +16,28 @@ pub fn write_trace(alloc: Global, trace: &Trace) -> Result<Vec<u8>, NoMemory>
     requires { IsTrace trace.now }
     ensures { IfOk result (λ text. text.items ≡ trace_of trace.now) }
 {
+    write_actions(alloc, trace.cores, trace.actions.as_slice())
+}
+
+/// The text of the trace that has these actions, without a copy of them.
+pub fn write_actions(alloc: Global, cores: u32, actions: &[Action]) -> Result<Vec<u8>, NoMemory>
+    requires cores { 1 ≤ cores }
+    requires slots { length actions.now ≤ MAX_SLOTS }
+    ensures { IfOk result (λ text. text.items ≡ trace_of (record { cores = cores; actions = actions.now })) }
+{
     let mut out = Vec::new(alloc);
-    push_trace(&mut out, trace)?;
+    push_trace(&mut out, cores, actions)?;
     Ok(out)
 }
 
 #[tactic(auto, unfolding(crate::specs::Text::trace_of))]
-fn push_trace(out: &mut Vec<u8>, trace: &Trace) -> Result<(), AllocError>
-    requires { IsTrace trace.now }
-    ensures { OnOk result (out.new.items ≡ out.old.items ++ trace_of trace.now) }
+fn push_trace(out: &mut Vec<u8>, cores: u32, actions: &[Action]) -> Result<(), AllocError>
+    requires cores { 1 ≤ cores }
+    requires slots { length actions.now ≤ MAX_SLOTS }
+    ensures { OnOk result (out.new.items ≡ out.old.items ++ trace_of (record { cores = cores; actions = actions.now })) }
 {
-    let actions = trace.actions.as_slice();
-    push_head(out, trace.cores)?;
-    push_action_lines(out, trace.cores, actions)?;
+    push_head(out, cores)?;
+    push_action_lines(out, cores, actions)?;
     push_end(out, actions.len() as u64)
 }
 
@@ -60,9 +69,9 @@ fn push_action_lines(out: &mut Vec<u8>, cores: u32, actions: &[Action]) -> Resul
     Ok(())
 }
 
-/// Appends the line of an action, which a core did in a slot.
+/// Appends the line of an action, which a core did in a slot. Listings have these lines too.
 #[tactic(auto, unfolding(pmsi_model::specs::Lines::action_line))]
-fn push_action_line(
+pub fn push_action_line(
     out: &mut Vec<u8>,
     slot: u32,
     core: u32,

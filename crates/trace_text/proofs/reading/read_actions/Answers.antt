@@ -1,9 +1,8 @@
-use Rattle.std.proofs.Common.{◌≡◌, ◌+◌, ◌≤◌, ◌<◌, ◌++◌, ◌∷◌, [], length, length-append, arith, rules, sym, ap, ◌∙◌, subst, Ok, Err, true, false, refl}
-use Rattle.pmsi_model.specs.declared.limits.TheConstants.{MAX_SLOTS}
+use Rattle.std.proofs.Common.{◌≡◌, ◌∷◌, [], length, length-append, arith, rules, sym, ap, ◌∙◌, Ok, Err, true, false, refl}
 use Rattle.trace_text.specs.declared.row.Row.TheVariants as row
-use Rattle.trace_text.specs.Reading.{fields_of, is_last, row_in, rows_in}
+use Rattle.trace_text.specs.Reading.{fields_of, is_last, row_in}
 use Rattle.trace_text.proofs.RowParts.{below}
-use Rattle.trace_text.proofs.RowReads.{goes_on, ends, refuses, runs_out, shorter}
+use Rattle.trace_text.proofs.RowReads.{goes_on, ends, refuses, runs_out}
 use Rattle.trace_text.proofs.reading.read_actions.Goals as goal
 
 pub loop-line-preserved : goal.loop-line-preserved
