@@ -1,9 +1,13 @@
 //! One core's cache: its lines with their modes and words, most recently used first.
 #![tactic(auto)]
 
+mod address;
+mod ages;
 mod cache;
-mod entries;
+mod entry;
 mod line;
+mod order;
+mod places;
 
 pub use cache::CacheArray;
 pub use line::{CachedLine, CachedWords};

@@ -1,19 +1,19 @@
 -- The word at its place in the line that is found.
 use Rattle.std.proofs.Common.{refl, ◌∙◌}
 use Rattle.pmsi_model.specs.Geometry.{line_of}
-use Rattle.cache_array.proofs.Places.{read_at}
+use Rattle.cache_array.proofs.Stands.{stands_words}
 use Rattle.cache_array.proofs.Keeps.{has_place}
 use Rattle.cache_array.proofs.cache.CacheArray.read_word.Goals as goal
 
 pub get-requires : goal.get-requires
 get-requires c =
-    let at = rw (c.deref.ensures.value, c.line_of.ensures) at c.held_place-place.ensures.place in
-    let words = read_at (line_of c.self.inside.shape c.args.address) c.held_place-place.result c.self.inside.entries.items c.index.result.now at c.index.ensures in
+    let at = rw (c.deref.ensures.value, c.line_of-line.ensures) at c.held_place-place.ensures in
+    let words = stands_words (line_of c.self.inside.shape c.args.address) c.held_place-place.result c.self.inside.entries.items c.index.result.now at c.index.ensures in
     let held = rw (← c.self.view_is) at c.requires.held in
-    rw c.line_bytes.ensures (has_place _ (line_of c.self.inside.shape c.args.address) c.args.address c.index.result.now.words c.self.invariant.0 held words)
+    rw c.word_of-word.ensures (has_place _ (line_of c.self.inside.shape c.args.address) c.args.address c.index.result.now.cached.words c.self.invariant.cache held words)
 
 pub returns : goal.returns
 returns c =
-    let at = rw (c.deref.ensures.value, c.line_of.ensures) at c.held_place-place.ensures.place in
-    let words = read_at (line_of c.self.inside.shape c.args.address) c.held_place-place.result c.self.inside.entries.items c.index.result.now at c.index.ensures in
-    rw (← c.self.view_is, words) (c.get.ensures ∙ rw c.line_bytes.ensures refl)
+    let at = rw (c.deref.ensures.value, c.line_of-line.ensures) at c.held_place-place.ensures in
+    let words = stands_words (line_of c.self.inside.shape c.args.address) c.held_place-place.result c.self.inside.entries.items c.index.result.now at c.index.ensures in
+    rw (← c.self.view_is, words) (c.get.ensures ∙ rw c.word_of-word.ensures refl)
