@@ -1,5 +1,5 @@
 -- The readings of a list of lines after each change.
-use Rattle.std.proofs.Common.{◌≡◌, ℕ, List, [], ◌∷◌, ◌++◌, Option, Some, None, ◌==◌, if◌then◌else◌, set, refl, ap, ◌∙◌, arith}
+use Rattle.std.proofs.Common.{◌≡◌, ◌≢◌, ℕ, List, [], ◌∷◌, ◌++◌, Option, Some, None, ◌==◌, if◌then◌else◌, set, refl, ap, ◌∙◌, arith}
 use Rattle.std.specs.Option.{option_to_list, option_map}
 use Rattle.pmsi_model.specs.declared.Mode.{Mode}
 use Rattle.pmsi_model.specs.declared.job.Geometry.{Geometry}
@@ -98,6 +98,22 @@ way_of-with_line_mode line k mode (l ∷ ls) = grind (arith, way_of-with_line_mo
 pub way_of-with_word : (line k place word : ℕ) (lines : List CachedLine) → way_of k (with_word line place word lines) ≡ way_of k lines
 way_of-with_word line k place word [] = refl
 way_of-with_word line k place word (l ∷ ls) = grind (arith, way_of-with_word line k place word ls)
+
+absent_wayless_by : (line : ℕ) (lines : List CachedLine) (entry : Option CachedLine) → entry_of line lines ≡ entry → way_of line lines ≡ None → mode_of line (held_of lines) ≡ None
+absent_wayless_by line lines None e none = mode_of-entry line lines ∙ ap (option_map (λ (l : CachedLine). l.mode)) e
+absent_wayless_by line lines (Some l) e none = cc
+
+-- a line without a way isn't held
+pub absent_wayless : (line : ℕ) (lines : List CachedLine) → way_of line lines ≡ None → mode_of line (held_of lines) ≡ None
+absent_wayless line lines none = absent_wayless_by line lines (entry_of line lines) refl none
+
+held_by_way_by : (line way : ℕ) (lines : List CachedLine) (entry : Option CachedLine) → entry_of line lines ≡ entry → way_of line lines ≡ Some way → mode_of line (held_of lines) ≢ None
+held_by_way_by line way lines None e found none = cc
+held_by_way_by line way lines (Some l) e found none = let mode = mode_of-entry line lines ∙ ap (option_map (λ (l : CachedLine). l.mode)) e in cc
+
+-- a line with a way is held
+pub held_by_way : (line way : ℕ) (lines : List CachedLine) → way_of line lines ≡ Some way → mode_of line (held_of lines) ≢ None
+held_by_way line way lines found = held_by_way_by line way lines (entry_of line lines) refl found
 
 -- ---- a line that was put
 

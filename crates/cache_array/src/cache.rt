@@ -7,7 +7,7 @@ ghost use Rattle.cache_array.specs.Cache.{IsCache, Holds, held_of, words_of, wor
 ghost use Rattle.cache_array.specs.Entries.{AreFree};
 
 use crate::entry::Entry;
-use crate::{address, ages, order, places};
+use crate::{CachedLine, address, ages, order, places};
 use pmsi_model::{Geometry, LineWords, Mode, NoMemory};
 use std::alloc::Global;
 use std::marker::Model;
@@ -20,6 +20,14 @@ pub struct CacheArray {
     entries: Vec<Entry>,
     /// Above the age of each held line.
     next: u64,
+}
+
+/// Where a line stands, and how it is held.
+#[derive(Debug, Clone, Copy, PartialEq, Eq, Drop)]
+pub struct Found {
+    /// The way of the line's set, from 0.
+    pub way: u32,
+    pub mode: Mode,
 }
 
 impl Model for CacheArray {
@@ -128,6 +136,28 @@ impl CacheArray {
         Some(self.entries[place].cached.way)
     }
 
+    /// The way and the mode of a line. With the way the calls that end in `_in` need no search.
+    pub fn look_up(&self, line: u32) -> Option<Found>
+        ensures way { option_map (λ f. f.way) result ≡ way_of line self.now.lines }
+        ensures mode { option_map (λ f. f.mode) result ≡ mode_of line (held_of self.now.lines) }
+        ensures cache { IsCache self.now }
+    {
+        let place = places::place_of(&self.shape, &self.entries, line)?;
+        let CachedLine { way, mode, .. } = self.entries[place].cached;
+        Some(Found { way, mode })
+    }
+
+    /// The way of a line that is held.
+    fn held_way(&self, line: u32) -> u32
+        requires { Holds line self.now.lines }
+        ensures { way_of line self.now.lines ≡ Some result }
+    {
+        let Some(way) = self.way(line) else {
+            unreachable!()
+        };
+        way
+    }
+
     /// Makes a line the most recently used.
     pub fn touch(&mut self, line: u32)
         requires { Holds line self.old.lines }
@@ -136,8 +166,20 @@ impl CacheArray {
         ensures words { (k : ℕ) → words_of k self.new.lines ≡ words_of k self.old.lines }
         ensures ways { (k : ℕ) → way_of k self.new.lines ≡ way_of k self.old.lines }
     {
+        let way = self.held_way(line);
+        self.touch_in(way, line);
+    }
+
+    /// Makes the line that stands in a way of its set the most recently used.
+    pub fn touch_in(&mut self, way: u32, line: u32)
+        requires { way_of line self.old.lines ≡ Some way }
+        ensures after { self.new ≡ record self.old { lines = touched line self.old.lines } }
+        ensures held { held_of self.new.lines ≡ touched_line (mode_of line (held_of self.old.lines)) line (held_of self.old.lines) }
+        ensures words { (k : ℕ) → words_of k self.new.lines ≡ words_of k self.old.lines }
+        ensures ways { (k : ℕ) → way_of k self.new.lines ≡ way_of k self.old.lines }
+    {
         let age = ages::take_age(&mut self.entries, self.next);
-        let place = places::held_place(&self.shape, &self.entries, line);
+        let place = places::place_in(&self.shape, &self.entries, line, way);
         self.entries[place].age = age;
         self.next = age + 1;
     }
@@ -199,8 +241,18 @@ impl CacheArray {
         requires held { Holds (line_of self.now.shape address) self.now.lines }
         ensures { result ≡ slice_index (words_of (line_of self.now.shape address) self.now.lines) (word_place self.now.shape address) }
     {
+        let way = self.held_way(address::line_of(&self.shape, address));
+        self.read_word_in(way, address)
+    }
+
+    /// The word at an address, whose line stands in this way of its set.
+    pub fn read_word_in(&self, way: u32, address: u32) -> u32
+        requires aligned { address % 4 ≡ 0 }
+        requires way { way_of (line_of self.now.shape address) self.now.lines ≡ Some way }
+        ensures { result ≡ slice_index (words_of (line_of self.now.shape address) self.now.lines) (word_place self.now.shape address) }
+    {
         let line = address::line_of(&self.shape, address);
-        let place = places::held_place(&self.shape, &self.entries, line);
+        let place = places::place_in(&self.shape, &self.entries, line, way);
         let word = address::word_of(&self.shape, address);
         self.entries[place].cached.words.get(word)
     }
@@ -218,8 +270,25 @@ impl CacheArray {
             else words_of k self.old.lines) }
         ensures ways { (k : ℕ) → way_of k self.new.lines ≡ way_of k self.old.lines }
     {
+        let way = self.held_way(address::line_of(&self.shape, address));
+        self.write_word_in(way, address, word);
+    }
+
+    /// Writes the word at an address, whose line stands in this way of its set. The line keeps its mode and its place.
+    pub fn write_word_in(&mut self, way: u32, address: u32, word: u32)
+        requires aligned { address % 4 ≡ 0 }
+        requires way { way_of (line_of self.old.shape address) self.old.lines ≡ Some way }
+        ensures after { self.new ≡ record self.old {
+          lines = with_word (line_of self.old.shape address) (word_place self.old.shape address) word self.old.lines;
+        } }
+        ensures held { held_of self.new.lines ≡ held_of self.old.lines }
+        ensures words { (k : ℕ) → words_of k self.new.lines ≡ (if k == line_of self.old.shape address
+            then slice_set (words_of (line_of self.old.shape address) self.old.lines) (word_place self.old.shape address) word
+            else words_of k self.old.lines) }
+        ensures ways { (k : ℕ) → way_of k self.new.lines ≡ way_of k self.old.lines }
+    {
         let line = address::line_of(&self.shape, address);
-        let place = places::held_place(&self.shape, &self.entries, line);
+        let place = places::place_in(&self.shape, &self.entries, line, way);
         let at = address::word_of(&self.shape, address);
         self.entries[place].cached.words.set(at, word);
     }

@@ -9,7 +9,7 @@ mod line;
 mod order;
 mod places;
 
-pub use cache::CacheArray;
+pub use cache::{CacheArray, Found};
 pub use line::{CachedLine, CachedWords};
 
 #[cfg(test)]
