@@ -9,7 +9,7 @@ ghost use Rattle.cache_array.specs.Entries.{AreFree};
 use crate::entry::Entry;
 use crate::{CachedLine, address, ages, order, places};
 use pmsi_model::{Geometry, LineWords, Mode, NoMemory};
-use std::alloc::Global;
+use std::alloc::{AllocError, Global};
 use std::marker::Model;
 
 /// One core's cache. A line is named by its number, an address counts bytes, and words have 32 bits.
@@ -100,7 +100,7 @@ impl CacheArray {
     }
 
     /// The held lines, most recently used first.
-    pub fn held_lines(&self, alloc: Global) -> Result<Vec<(u32, Mode)>, NoMemory>
+    pub fn held_lines(&self, alloc: Global) -> Result<Vec<(u32, Mode)>, AllocError>
         ensures { IfOk result (λ v. v.items ≡ held_of self.now.lines) }
     {
         let mut lines = Vec::new(alloc);

@@ -6,8 +6,8 @@ ghost use Rattle.cache_array.specs.Entries.{lines_of, by_age};
 ghost use Rattle.cache_array.specs.Aged.{aged_line, aged_lines};
 
 use crate::entry::Entry;
-use pmsi_model::{Mode, NoMemory};
-use std::alloc::Global;
+use pmsi_model::Mode;
+use std::alloc::{AllocError, Global};
 
 /// How many entries hold a line.
 pub fn count_held(entries: &[Entry]) -> usize
@@ -26,7 +26,7 @@ pub struct AgedLine {
 }
 
 /// The held lines as they stand in the array, each with its age.
-fn aged_lines(alloc: Global, entries: &[Entry]) -> Result<Vec<AgedLine>, NoMemory>
+fn aged_lines(alloc: Global, entries: &[Entry]) -> Result<Vec<AgedLine>, AllocError>
     ensures { IfOk result (λ v. v.items ≡ aged_lines entries.now) }
 {
     let mut lines = Vec::with_capacity(alloc, count_held(entries))?;
@@ -39,7 +39,7 @@ fn aged_lines(alloc: Global, entries: &[Entry]) -> Result<Vec<AgedLine>, NoMemor
 }
 
 /// The held lines by falling age, each with its age.
-pub fn by_age(alloc: Global, entries: &[Entry]) -> Result<Vec<AgedLine>, NoMemory>
+pub fn by_age(alloc: Global, entries: &[Entry]) -> Result<Vec<AgedLine>, AllocError>
     ensures { IfOk result (λ v. v.items ≡ map aged_line (by_age entries.now)) }
 {
     let mut lines = aged_lines(alloc, entries)?;
