@@ -1,0 +1,8 @@
+pub mod Views
+pub mod TurnMoves
+pub mod TurnLooks
+pub mod TurnActs
+pub mod SeatLists
+pub mod Seatings
+pub mod Meetings
+pub mod Exports

@@ -1,0 +1,4 @@
+pub mod ActionNumbers
+pub mod Rule
+pub mod Answers
+pub mod Seats
