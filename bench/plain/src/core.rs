@@ -167,8 +167,8 @@ impl<const W: usize> Core<W> {
         }
     }
 
-    /// The phase of a slot. With `KEEP` the accesses are kept.
-    #[inline(always)]
+    /// The phase of a slot. With `KEEP` the accesses are kept. It isn't inlined, so that its loop has the machine registers to itself.
+    #[inline(never)]
     pub fn phase<const KEEP: bool>(&mut self, slot: u32, quantum: u32, touches: &mut Vec<Touch>) -> Dropped {
         let text: &[Instruction] = &self.text;
         let mut hits = self.cache.hits();

@@ -11,6 +11,7 @@ mod text;
 use job::Job;
 use machine::{Keep, Machine};
 use std::io::Write;
+use std::ops::RangeInclusive;
 use std::process::ExitCode;
 
 const USAGE: &str =
@@ -28,53 +29,34 @@ fn refused(detail: impl std::fmt::Display) -> Failure {
     Failure(5, format!("refused: input: {detail}"))
 }
 
-/// The words after the command: options with their values, and one word more.
-struct Words {
-    options: Vec<(String, String)>,
-    last: String,
-}
+/// The words after the command.
+struct Words(Vec<String>);
 
 impl Words {
-    fn read(words: impl Iterator<Item = String>) -> Option<Words> {
-        let (mut options, mut last) = (Vec::new(), None);
-        let mut words = words.peekable();
-        while let Some(word) = words.next() {
-            match word.strip_prefix("--") {
-                Some(name) => options.push((name.to_string(), words.next()?)),
-                None if last.is_none() => last = Some(word),
-                None => return None,
-            }
-        }
-        Some(Words { options, last: last? })
+    /// Takes an option and its value out; the default where it isn't given.
+    fn take<T>(&mut self, name: &str, default: T, read: impl Fn(&str) -> Option<T>) -> Result<T, Failure> {
+        let Some(place) = self.0.iter().position(|word| word == name) else { return Ok(default) };
+        let value = self.0.get(place + 1).and_then(|word| read(word)).ok_or_else(usage)?;
+        self.0.drain(place..place + 2);
+        Ok(value)
     }
 
-    /// Takes the option out, if it was given.
-    fn take(&mut self, name: &str) -> Option<String> {
-        let place = self.options.iter().position(|(given, _)| given == name)?;
-        Some(self.options.remove(place).1)
+    /// The one word that is left.
+    fn last(self) -> Result<String, Failure> {
+        <[String; 1]>::try_from(self.0).map(|[word]| word).map_err(|_| usage())
     }
+}
 
-    fn flag(&mut self, name: &str) -> Result<bool, Failure> {
-        match self.take(name).as_deref() {
-            Some("yes") => Ok(true),
-            Some("no") | None => Ok(false),
-            Some(_) => Err(usage()),
-        }
+fn flag(word: &str) -> Option<bool> {
+    match word {
+        "yes" => Some(true),
+        "no" => Some(false),
+        _ => None,
     }
+}
 
-    fn number(&mut self, name: &str, default: u32, range: std::ops::RangeInclusive<u32>) -> Result<u32, Failure> {
-        let Some(text) = self.take(name) else { return Ok(default) };
-        text.parse().ok().filter(|number| range.contains(number)).ok_or_else(usage)
-    }
-
-    /// The last word, where no option is left.
-    fn end(self) -> Result<String, Failure> {
-        if self.options.is_empty() {
-            Ok(self.last)
-        } else {
-            Err(usage())
-        }
-    }
+fn number(range: RangeInclusive<u32>) -> impl Fn(&str) -> Option<u32> {
+    move |word| word.parse().ok().filter(|number| range.contains(number))
 }
 
 /// Runs a job, and gives a text of the machine at its end.
@@ -96,8 +78,8 @@ fn run(job: &Job, keep: Keep, is_summary: bool) -> Vec<u8> {
 }
 
 fn run_command(mut words: Words) -> Result<Vec<u8>, Failure> {
-    let keep = Keep { trace: words.flag("trace")?, touches: words.flag("touches")? };
-    let bytes = std::fs::read(words.end()?).map_err(|fault| Failure(3, format!("read fault: {fault}")))?;
+    let keep = Keep { trace: words.take("--trace", false, flag)?, touches: words.take("--touches", false, flag)? };
+    let bytes = std::fs::read(words.last()?).map_err(|fault| Failure(3, format!("read fault: {fault}")))?;
     let job = Job::read(&bytes).map_err(refused)?;
     if keep.touches && job.most_touches() > MOST_TOUCHES {
         return Err(refused(format_args!("touches {}", job.most_touches())));
@@ -106,21 +88,19 @@ fn run_command(mut words: Words) -> Result<Vec<u8>, Failure> {
 }
 
 fn gen_command(mut words: Words) -> Result<Vec<u8>, Failure> {
-    let cores = words.number("cores", 4, 1..=16)?;
-    let slots = words.number("slots", 20_000, 0..=1_000_000)?;
-    let is_run = words.flag("run")?;
-    let seed = words.end()?.parse().map_err(|_| usage())?;
+    let cores = words.take("--cores", 4, number(1..=16))?;
+    let slots = words.take("--slots", 20_000, number(0..=1_000_000))?;
+    let is_run = words.take("--run", false, flag)?;
+    let seed = number(0..=u32::MAX)(&words.last()?).ok_or_else(usage)?;
     let job = Job::of_seed(seed, cores, slots);
     Ok(if is_run { run(&job, Keep::default(), true) } else { job.print().into_bytes() })
 }
 
 fn result() -> Result<Vec<u8>, Failure> {
     let mut words = std::env::args().skip(1);
-    let command = words.next().ok_or_else(usage)?;
-    let words = Words::read(words).ok_or_else(usage)?;
-    match command.as_str() {
-        "run" => run_command(words),
-        "gen" => gen_command(words),
+    match words.next().as_deref() {
+        Some("run") => run_command(Words(words.collect())),
+        Some("gen") => gen_command(Words(words.collect())),
         _ => Err(usage()),
     }
 }
