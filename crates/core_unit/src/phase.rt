@@ -14,9 +14,9 @@ ghost use Rattle.core_unit.specs.Stands.{CanExecute, HasTouchRoom, SameRun, Stan
 ghost use Rattle.core_unit.specs.Parts.{CanPhase, IsPart, IsPartAfter};
 ghost use Rattle.core_unit.specs.Phases.{IsInPhase};
 
+use crate::program::Fetched;
 use crate::state::State;
 use pmsi_model::{Access, AccessOp, Halt, Kind, Mode, Status, Want};
-use rv_decode::decode;
 use rv_exec::{Effect, exec};
 
 impl State {
@@ -137,14 +137,14 @@ impl State {
     }
 
     /// Executes a fetched word.
-    fn execute(&mut self, word: u32)
+    fn execute(&mut self, fetched: Fetched)
         requires { CanExecute self.old }
         ensures same { SameRun self.old self.new }
-        ensures stands { StandsAfter (λ job. effect_of_word job.shape word (core_of self.old) (instr_of word)) self.old self.new }
-        ensures touched { TouchesAfter (λ job. effect_of_word job.shape word (core_of self.old) (instr_of word)) self.old self.new }
+        ensures stands { StandsAfter (λ job. effect_of_word job.shape fetched (core_of self.old) (instr_of fetched)) self.old self.new }
+        ensures touched { TouchesAfter (λ job. effect_of_word job.shape fetched (core_of self.old) (instr_of fetched)) self.old self.new }
     {
-        let Some(instr) = decode(word) else {
-            self.status = Status::Halted(Halt::Illegal(word));
+        let Some(instr) = fetched.instr() else {
+            self.status = Status::Halted(Halt::Illegal(fetched.word()));
             return;
         };
         match exec(instr, &mut self.regs, self.pc, self.shape.memory) {
@@ -157,13 +157,6 @@ impl State {
         }
     }
 
-    /// The word at the pc, if the pc is in the text.
-    fn fetch_word(&self) -> Option<u32>
-        ensures { result ≡ slice_get self.now.text (self.now.pc / 4) }
-    {
-        self.text.as_slice().get((self.pc / 4) as usize).copied()
-    }
-
     /// Takes the instruction at the pc.
     fn instruction(&mut self)
         requires ready { CanExecute self.old }
@@ -172,8 +165,8 @@ impl State {
         ensures stands { StandsNext self.old self.new }
         ensures touched { TouchesNext self.old self.new }
     {
-        match self.fetch_word() {
-            Some(word) => self.execute(word),
+        match self.text.fetch((self.pc / 4) as usize) {
+            Some(fetched) => self.execute(fetched),
             None => self.status = Status::Halted(Halt::FetchRange(self.pc)),
         }
     }
