@@ -1,23 +1,21 @@
 -- What holds of a cache stays so at each change.
-use Rattle.std.proofs.Common.{◌≡◌, ◌≢◌, ◌⊎◌, ℕ, zero, suc, ◌+◌, ◌*◌, ◌/◌, ◌%◌, ◌<◌, ◌≤◌, List, [], ◌∷◌, ◌++◌, length, Option, Some, None, true, ◌==◌, nat_lt, add-one, refl, sym, ap, ◌∙◌, subst, arith, inl, inr, lit<}
+use Rattle.std.proofs.Common.{◌≡◌, ◌≢◌, ◌⊎◌, ℕ, zero, suc, ◌+◌, ◌*◌, ◌/◌, ◌%◌, ◌<◌, ◌≤◌, List, [], ◌∷◌, ◌++◌, length, Option, Some, None, true, ◌==◌, refl, sym, ap, ◌∙◌, subst, arith, inl, inr, lit<}
 use Rattle.std.specs.List.{filter}
 use Rattle.std.specs.Int.{is_power_of_two}
-use Rattle.std.proofs.lemmas.List.{length-set, length-map}
-use Rattle.std.proofs.lemmas.Nat.{mod_below}
-use Rattle.std.proofs.Math.Nat.{suc-mul, mod-eq_of_lt}
+use Rattle.std.proofs.lemmas.List.{length-set}
+use Rattle.std.proofs.lemmas.Nat.{mod_below, mul-le}
+use Rattle.std.proofs.Math.Nat.{suc-mul}
 use Rattle.std.specs.Option.{option_to_list, option_map}
 use lib.Count.{ones, ones-le}
-use Rattle.pmsi_model.specs.declared.Mode.TheVariants.{Shared}
 use Rattle.pmsi_model.specs.declared.job.Geometry.{Geometry}
 use Rattle.pmsi_model.specs.declared.Mode.{Mode}
 use Rattle.pmsi_model.specs.Geometry.{IsGeometry, line_bytes, set_of}
 use Rattle.pmsi_model.specs.Machine.{mode_of, to_front}
 use Rattle.pmsi_model.specs.Phase.{set_lines}
-use Rattle.pmsi_model.proofs.Held.{once_without, once_to_front, once_with_mode, fewer_without, same_with_mode}
 use Rattle.cache_array.specs.declared.line.CachedLine.{CachedLine}
-use Rattle.cache_array.specs.Cache.{CacheValue, IsCache, HasWords, held_of, words_of, entry_of, others, touched, put_first, with_line_mode, with_word, word_place}
+use Rattle.cache_array.specs.Cache.{CacheValue, IsCache, HasWords, held_of, words_of, entry_of, others, touched, put_with, with_line_mode, with_word, word_place}
+use Rattle.pmsi_model.proofs.Held.{once_without, once_to_front, once_with_mode, fewer_without, same_with_mode}
 use Rattle.cache_array.proofs.Lines.{held_of-others, held_of-with_line_mode, held_of-with_word, mode_of-entry, entry_line}
-use Rattle.cache_array.proofs.Places.{others_absent}
 
 -- ---- the lines of a set
 
@@ -65,9 +63,9 @@ held_lines c lines is e has = record {
   words = has;
 }
 
-pub IsCache-put_first : (c : CacheValue) (line : ℕ) (mode : Mode) (words : List ℕ) → IsCache c → mode_of line (held_of c.lines) ≢ None ⊎ (length (set_lines c.shape line (held_of c.lines)) < c.shape.ways) → length words ≡ c.shape.line_words
-    → IsCache (record { shape = c.shape; lines = put_first line mode words c.lines })
-IsCache-put_first c line mode words is room long = record {
+pub IsCache-put_with : (c : CacheValue) (line : ℕ) (mode : Mode) (words : List ℕ) (way : ℕ) → IsCache c → mode_of line (held_of c.lines) ≢ None ⊎ (length (set_lines c.shape line (held_of c.lines)) < c.shape.ways) → length words ≡ c.shape.line_words
+    → IsCache (record { shape = c.shape; lines = put_with line mode words way c.lines })
+IsCache-put_with c line mode words way is room long = record {
   shape = is.shape;
   once = rw (held_of-others line c.lines) (once_to_front line mode (held_of c.lines) is.once);
   within = λ k. rw (held_of-others line c.lines) (set_lines-put c.shape line k mode (held_of c.lines) room (is.within k));
@@ -89,7 +87,7 @@ IsCache-fronted c line (Some l) is e =
     let held : mode_of line (held_of c.lines) ≡ Some l.mode = mode_of-entry line c.lines ∙ ap (option_map (λ (x : CachedLine). x.mode)) e in
     let is_held : mode_of line (held_of c.lines) ≢ None = λ none. cc in
     let long : length l.words ≡ c.shape.line_words = ap length (sym at.1) ∙ words_of-length c.shape.line_words line c.lines is.words is_held in
-    subst (λ (k : ℕ). IsCache (record { shape = c.shape; lines = record { line = k; mode = l.mode; words = l.words } ∷ others line c.lines })) (sym at.0) (IsCache-put_first c line l.mode l.words is (inl is_held) long)
+    subst (λ (k : ℕ). IsCache (record { shape = c.shape; lines = record { line = k; mode = l.mode; words = l.words; way = l.way } ∷ others line c.lines })) (sym at.0) (IsCache-put_with c line l.mode l.words l.way is (inl is_held) long)
 
 pub IsCache-touched : (c : CacheValue) (line : ℕ) → IsCache c → IsCache (record { shape = c.shape; lines = touched line c.lines })
 IsCache-touched c line is = IsCache-fronted c line (entry_of line c.lines) is refl
@@ -105,61 +103,19 @@ IsCache-with_line_mode c line mode is = record {
 pub IsCache-with_word : (c : CacheValue) (line place word : ℕ) → IsCache c → IsCache (record { shape = c.shape; lines = with_word line place word c.lines })
 IsCache-with_word c line place word is = held_lines c (with_word line place word c.lines) is (held_of-with_word line place word c.lines) (words-with_word c.shape.line_words line place word c.lines is.words)
 
--- ---- the room
+-- ---- the sets
 
-some_from_power : (n : ℕ) → is_power_of_two n ≡ true → 0 < n
+pub some_from_power : (n : ℕ) → is_power_of_two n ≡ true → 0 < n
 some_from_power zero e = let none : ones 0 ≤ 0 = ones-le 0 0 (lit< tt) in absurd (grind (arith, none))
 some_from_power (suc n) e = omega arith
 
-none_below : (shape : Geometry) (held : List (ℕ × Mode)) → filter (λ h. nat_lt (set_of shape h.0) 0) held ≡ []
-none_below shape [] = refl
-none_below shape (h ∷ hs) = grind (arith, none_below shape hs)
-
-one_more_set : (shape : Geometry) (n : ℕ) (held : List (ℕ × Mode))
-    → length (filter (λ h. nat_lt (set_of shape h.0) (n + 1)) held) ≡ length (filter (λ h. nat_lt (set_of shape h.0) n) held) + length (filter (λ h. set_of shape h.0 == n) held)
-one_more_set shape n [] = grind arith
-one_more_set shape n (h ∷ hs) = grind (arith, one_more_set shape n hs)
-
-below_sets : (shape : Geometry) (held : List (ℕ × Mode)) (n : ℕ) → n ≤ shape.sets → ((line : ℕ) → length (set_lines shape line held) ≤ shape.ways)
-    → length (filter (λ h. nat_lt (set_of shape h.0) n) held) ≤ n * shape.ways
-below_sets shape held zero most within = rw (none_below shape held) (omega arith)
-below_sets shape held (suc n) most within =
-    let rest = below_sets shape held n (omega arith) within in
-    let more = one_more_set shape n held in
-    let here : set_of shape n ≡ n = mod-eq_of_lt (omega arith) in
-    let set : length (filter (λ (h : ℕ × Mode). set_of shape h.0 == n) held) ≤ shape.ways = rw here at (within n) in
-    let all : suc n * shape.ways ≡ n * shape.ways + shape.ways = suc-mul n shape.ways in
-    rw (all, ← add-one n) (omega arith)
-
-all_sets : (shape : Geometry) (held : List (ℕ × Mode)) → 0 < shape.sets → filter (λ h. nat_lt (set_of shape h.0) shape.sets) held ≡ held
-all_sets shape [] some = refl
-all_sets shape (h ∷ hs) some = let below : set_of shape h.0 < shape.sets = mod_below h.0 shape.sets some in grind (arith, all_sets shape hs some)
-
--- as many lines as there are sets times ways
-pub lines_fit : (c : CacheValue) → IsCache c → length c.lines ≤ c.shape.sets * c.shape.ways
-lines_fit c is =
-    let most = below_sets c.shape (held_of c.lines) c.shape.sets (omega arith) is.within in
-    let all = all_sets c.shape (held_of c.lines) (some_from_power c.shape.sets is.shape.sets) in
-    let long : length (held_of c.lines) ≡ length c.lines = length-map c.lines (λ (l : CachedLine). (l.line, l.mode)) in
-    let most' : length (held_of c.lines) ≤ c.shape.sets * c.shape.ways = rw all at most in omega arith
-
--- a line that can be put and isn't held fits as well
-pub one_more_fits : (c : CacheValue) (line : ℕ) (words : List ℕ) → IsCache c → mode_of line (held_of c.lines) ≡ None → length (set_lines c.shape line (held_of c.lines)) < c.shape.ways → length words ≡ c.shape.line_words
-    → length c.lines < c.shape.sets * c.shape.ways
-one_more_fits c line words is absent room long =
-    let fits = lines_fit _ (IsCache-put_first c line Shared words is (inr room) long) in
-    let long' : length (others line c.lines) ≡ length c.lines = ap length (others_absent line c.lines absent) in omega arith
-
-room_for : (c : CacheValue) (line : ℕ) (words : List ℕ) (len cap : ℕ) (mode : Option Mode) → mode_of line (held_of c.lines) ≡ mode → IsCache c → length (set_lines c.shape line (held_of c.lines)) < c.shape.ways → length words ≡ c.shape.line_words
-    → len ≡ length c.lines → c.shape.sets * c.shape.ways ≤ cap → mode_of line (held_of c.lines) ≢ None ⊎ (len < cap)
-room_for c line words len cap None e is room long count most = let fits = one_more_fits c line words is e room long in inr (omega arith)
-room_for c line words len cap (Some mode) e is room long count most = inl (λ none. cc)
-
--- a line that can be put has its place or finds one
-pub room_to_put : (c : CacheValue) (line : ℕ) (words : List ℕ) (len cap : ℕ) → IsCache c → mode_of line (held_of c.lines) ≢ None ⊎ (length (set_lines c.shape line (held_of c.lines)) < c.shape.ways) → length words ≡ c.shape.line_words
-    → len ≡ length c.lines → c.shape.sets * c.shape.ways ≤ cap → mode_of line (held_of c.lines) ≢ None ⊎ (len < cap)
-room_to_put c line words len cap is (inl held) long count most = inl held
-room_to_put c line words len cap is (inr room) long count most = room_for c line words len cap (mode_of line (held_of c.lines)) refl is room long count most
+-- a set's entries are entries of the array
+pub set_within : (shape : Geometry) (line : ℕ) → IsGeometry shape → set_of shape line * shape.ways + shape.ways ≤ shape.sets * shape.ways
+set_within shape line is =
+    let below : set_of shape line < shape.sets = mod_below line shape.sets (some_from_power shape.sets is.sets) in
+    let more : suc (set_of shape line) * shape.ways ≡ set_of shape line * shape.ways + shape.ways = suc-mul (set_of shape line) shape.ways in
+    let most : suc (set_of shape line) * shape.ways ≤ shape.sets * shape.ways = mul-le (suc (set_of shape line)) shape.ways shape.sets shape.ways below (omega arith) in
+    omega arith
 
 -- ---- the place of a word
 

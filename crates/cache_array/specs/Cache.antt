@@ -1,10 +1,10 @@
 -- What a contract sees of a cache: its shape and its lines, most recently used first.
-use Rattle.std.specs.Prelude.{◌≡◌, ◌≢◌, ℕ, ◌/◌, ◌%◌, ◌≤◌, List, [], ◌∷◌, ◌++◌, map, length, slice_set, not, ◌==◌, Option, None, if◌then◌else◌}
+use Rattle.std.specs.Prelude.{◌≡◌, ◌≢◌, ℕ, zero, suc, ◌+◌, ◌/◌, Bool, false, ◌&&◌, ◌||◌, ◌%◌, ◌≤◌, List, [], ◌∷◌, ◌++◌, map, length, slice_set, not, ◌==◌, Option, None, if◌then◌else◌}
 use Rattle.std.specs.List.{filter, find}
-use Rattle.std.specs.Option.{option_to_list}
+use Rattle.std.specs.Option.{option_to_list, option_map, unwrap_or}
 use Rattle.pmsi_model.specs.declared.job.Geometry.{Geometry}
 use Rattle.pmsi_model.specs.declared.Mode.{Mode}
-use Rattle.pmsi_model.specs.Geometry.{IsGeometry, line_bytes}
+use Rattle.pmsi_model.specs.Geometry.{IsGeometry, line_bytes, set_of}
 use Rattle.pmsi_model.specs.Machine.{mode_of}
 use Rattle.pmsi_model.specs.Phase.{set_lines}
 use Rattle.pmsi_model.specs.Coherent.{HoldsEachOnce}
@@ -33,6 +33,28 @@ words_of line (l ∷ ls) = if l.line == line then l.words else words_of line ls
 abbrev pub entry_of : ℕ → List CachedLine → Option CachedLine
 entry_of line lines = find (λ l. l.line == line) lines
 
+-- the way in which a line stands, where it is held
+abbrev pub way_of : ℕ → List CachedLine → Option ℕ
+way_of line lines = option_map (λ l. l.way) (entry_of line lines)
+
+-- a line of the set stands in this way
+abbrev pub is_taken : Geometry → ℕ → ℕ → List CachedLine → Bool
+is_taken shape set way [] = false
+is_taken shape set way (l ∷ ls) = ((set_of shape l.line == set) && (l.way == way)) || is_taken shape set way ls
+
+-- the least way that isn't taken among so many from a way on
+abbrev pub free_from : Geometry → ℕ → List CachedLine → ℕ → ℕ → ℕ
+free_from shape set lines zero way = way
+free_from shape set lines (suc count) way = if is_taken shape set way lines then free_from shape set lines count (way + 1) else way
+
+-- the way for a line: its own, else the least free one of its set
+unfoldable pub way_for : Geometry → ℕ → List CachedLine → ℕ
+way_for shape line lines = unwrap_or (way_of line lines) (free_from shape (set_of shape line) lines shape.ways 0)
+
+-- no other line of its set stands in the way of a held line
+abbrev pub HasOwnWay : ℕ → CacheValue → Type 0
+HasOwnWay line c = Holds line c.lines → (other : ℕ) → set_of c.shape other ≡ set_of c.shape line → way_of other c.lines ≡ way_of line c.lines → other ≡ line
+
 -- the place of an address's word among the words of its line
 abbrev pub word_place : Geometry → ℕ → ℕ
 word_place shape address = address % line_bytes shape / 4
@@ -47,9 +69,13 @@ others line lines = filter (λ l. not (l.line == line)) lines
 abbrev pub touched : ℕ → List CachedLine → List CachedLine
 touched line lines = option_to_list (entry_of line lines) ++ others line lines
 
--- the line stands at the front, with this mode and these words
-abbrev pub put_first : ℕ → Mode → List ℕ → List CachedLine → List CachedLine
-put_first line mode words lines = record { line = line; mode = mode; words = words } ∷ others line lines
+-- the line stands at the front, with this mode, these words and this way
+abbrev pub put_with : ℕ → Mode → List ℕ → ℕ → List CachedLine → List CachedLine
+put_with line mode words way lines = record { line = line; mode = mode; words = words; way = way } ∷ others line lines
+
+-- the line stands at the front, with this mode and these words: in the way that it has, else in the least free one of its set
+abbrev pub put_first : Geometry → ℕ → Mode → List ℕ → List CachedLine → List CachedLine
+put_first shape line mode words lines = put_with line mode words (way_for shape line lines) lines
 
 -- the line changes in its place
 abbrev pub with_line : ℕ → (CachedLine → CachedLine) → List CachedLine → List CachedLine

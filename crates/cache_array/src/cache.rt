@@ -1,12 +1,13 @@
-//! The cache as a list of lines, whose room is taken once.
-ghost use Rattle.std.specs.Prelude.{◌≡◌, ◌≢◌, ◌⊎◌, ℕ, ◌*◌, ◌%◌, ◌<◌, ◌≤◌, [], ◌∷◌, ◌==◌, length, IfOk, Some, None, if◌then◌else◌, slice_get, slice_index, slice_set, option_map};
-ghost use Rattle.std.specs.Vec.{vec_capacity};
+//! The cache as an array of entries, `ways` for each set.
+ghost use Rattle.std.specs.Prelude.{◌≡◌, ◌⊎◌, ℕ, ◌*◌, ◌%◌, ◌<◌, [], ◌==◌, length, IfOk, IfSome, Some, None, if◌then◌else◌, slice_get, slice_index, slice_set, option_map};
 ghost use Rattle.pmsi_model.specs.Geometry.{IsGeometry, line_of};
 ghost use Rattle.pmsi_model.specs.Machine.{mode_of, without, to_front, with_mode};
 ghost use Rattle.pmsi_model.specs.Phase.{set_lines, touched_line, evicted};
-ghost use Rattle.cache_array.specs.Cache.{IsCache, Holds, held_of, words_of, entry_of, word_place, others, touched, put_first, with_line_mode, with_word};
+ghost use Rattle.cache_array.specs.Cache.{IsCache, Holds, held_of, words_of, word_place, others, touched, put_first, way_of, way_for, HasOwnWay, with_line_mode, with_word};
+ghost use Rattle.cache_array.specs.Entries.{AreFree};
 
-use crate::{CachedLine, CachedWords, entries};
+use crate::entry::Entry;
+use crate::{CachedLine, address, ages, order, places};
 use pmsi_model::{Geometry, LineWords, Mode, NoMemory};
 use std::alloc::Global;
 use std::marker::Model;
@@ -15,54 +16,70 @@ use std::marker::Model;
 #[derive(Drop)]
 pub struct CacheArray {
     shape: Geometry,
-    /// Most recently used first.
-    entries: Vec<CachedLine>,
+    /// The entries of each set in turn.
+    entries: Vec<Entry>,
+    /// Above the age of each held line.
+    next: u64,
+}
+
+/// Where a line stands, and how it is held.
+#[derive(Debug, Clone, Copy, PartialEq, Eq, Drop)]
+pub struct Found {
+    /// The way of the line's set, from 0.
+    pub way: u32,
+    pub mode: Mode,
 }
 
 impl Model for CacheArray {
-    ghost use Rattle.std.specs.Prelude.{◌*◌, ◌≤◌};
-    ghost use Rattle.std.specs.Vec.{vec_capacity};
-    ghost use Rattle.cache_array.specs.Cache.{CacheValue, IsCache};
+    ghost use Rattle.cache_array.specs.Cache.{CacheValue};
+    ghost use Rattle.cache_array.specs.Entries.{lines_of, IsArray};
 
     ghost Value = { CacheValue };
 
-    ghost view = { λ a. record { shape = a.shape; lines = a.entries.items } };
+    ghost view = { λ a. record { shape = a.shape; lines = lines_of a.entries.items } };
 
-    ghost invariant = { λ a. IsCache (record { shape = a.shape; lines = a.entries.items }) × (a.shape.sets * a.shape.ways ≤ vec_capacity a.entries) };
+    ghost invariant = { λ a. IsArray a.shape a.next a.entries.items };
 }
 
-/// An empty list of lines with room for all that the shape can hold.
-fn with_room(alloc: Global, shape: &Geometry) -> Result<Vec<CachedLine>, NoMemory>
+/// The entries of an empty cache.
+fn free_entries(alloc: Global, shape: &Geometry) -> Result<Vec<Entry>, NoMemory>
     requires { IsGeometry shape.now }
-    ensures items { IfOk result (λ v. v.items ≡ []) }
-    ensures room { IfOk result (λ v. shape.now.sets * shape.now.ways ≤ vec_capacity v) }
+    ensures free { IfOk result (λ v. AreFree shape.now.ways 0 v.items) }
+    ensures count { IfOk result (λ v. length v.items ≡ shape.now.sets * shape.now.ways) }
 {
-    Ok(Vec::with_capacity(alloc, shape.sets as usize * shape.ways as usize)?)
+    let count = shape.sets as usize * shape.ways as usize;
+    let mut entries = Vec::with_capacity(alloc, count)?;
+    for place in 0..count {
+        entries.push_reserved(Entry::free(place as u32 % shape.ways));
+    }
+    Ok(entries)
 }
 
 impl CacheArray {
-    /// An empty cache, with room for all its lines: no later call takes memory but `copy`.
+    /// An empty cache, with room for all its lines: no later call takes memory but `copy` and `held_lines`.
     pub fn new(alloc: Global, shape: Geometry) -> Result<CacheArray, NoMemory>
         requires { IsGeometry shape }
         ensures { IfOk result (λ c. c ≡ record { shape = shape; lines = [] }) }
     {
         Ok(CacheArray {
             shape,
-            entries: with_room(alloc, &shape)?,
+            entries: free_entries(alloc, &shape)?,
+            next: 0,
         })
     }
 
-    /// An equal cache, with room for all its lines.
+    /// An equal cache.
     pub fn copy(&self, alloc: Global) -> Result<CacheArray, NoMemory>
         ensures { IfOk result (λ c. c ≡ self.now) }
     {
-        let mut entries = with_room(alloc, &self.shape)?;
+        let mut entries = Vec::with_capacity(alloc, self.entries.len())?;
         for entry in &self.entries {
             entries.push_reserved(entry.copy());
         }
         Ok(CacheArray {
             shape: self.shape,
             entries,
+            next: self.next,
         })
     }
 
@@ -74,20 +91,30 @@ impl CacheArray {
         self.shape
     }
 
-    /// The line at a place of the list, the most recently used at 0.
+    /// The line at a place of the list, the most recently used at 0. It counts the younger lines of each line: take
+    /// `held_lines` to see all.
     pub fn held(&self, place: u32) -> Option<(u32, Mode)>
         ensures { result ≡ slice_get (held_of self.now.lines) place }
     {
-        self.entries
-            .get(place as usize)
-            .map(|entry| (entry.line, entry.mode))
+        order::nth_line(&self.entries, place as usize)
+    }
+
+    /// The held lines, most recently used first.
+    pub fn held_lines(&self, alloc: Global) -> Result<Vec<(u32, Mode)>, NoMemory>
+        ensures { IfOk result (λ v. v.items ≡ held_of self.now.lines) }
+    {
+        let mut lines = Vec::new(alloc);
+        for line in &order::by_age(alloc, &self.entries)? {
+            lines.push((line.line, line.mode))?;
+        }
+        Ok(lines)
     }
 
     /// How many lines are held.
     pub fn held_count(&self) -> u32
         ensures { result ≡ length (held_of self.now.lines) }
     {
-        self.entries.len() as u32
+        order::count_held(&self.entries) as u32
     }
 
     /// The mode of a line.
@@ -95,8 +122,40 @@ impl CacheArray {
         ensures mode { result ≡ mode_of line (held_of self.now.lines) }
         ensures cache { IsCache self.now }
     {
-        let place = entries::place_of(&self.entries, line)?;
-        Some(self.entries[place].mode)
+        let place = places::place_of(&self.shape, &self.entries, line)?;
+        Some(self.entries[place].cached.mode)
+    }
+
+    /// The way of its set in which a line stands, from 0. A line keeps its way until it leaves.
+    pub fn way(&self, line: u32) -> Option<u32>
+        ensures way { result ≡ way_of line self.now.lines }
+        ensures below { IfSome result (λ way. way < self.now.shape.ways) }
+        ensures apart { HasOwnWay line self.now }
+    {
+        let place = places::place_of(&self.shape, &self.entries, line)?;
+        Some(self.entries[place].cached.way)
+    }
+
+    /// The way and the mode of a line. With the way the calls that end in `_in` need no search.
+    pub fn look_up(&self, line: u32) -> Option<Found>
+        ensures way { option_map (λ f. f.way) result ≡ way_of line self.now.lines }
+        ensures mode { option_map (λ f. f.mode) result ≡ mode_of line (held_of self.now.lines) }
+        ensures cache { IsCache self.now }
+    {
+        let place = places::place_of(&self.shape, &self.entries, line)?;
+        let CachedLine { way, mode, .. } = self.entries[place].cached;
+        Some(Found { way, mode })
+    }
+
+    /// The way of a line that is held.
+    fn held_way(&self, line: u32) -> u32
+        requires { Holds line self.now.lines }
+        ensures { way_of line self.now.lines ≡ Some result }
+    {
+        let Some(way) = self.way(line) else {
+            unreachable!()
+        };
+        way
     }
 
     /// Makes a line the most recently used.
@@ -105,30 +164,33 @@ impl CacheArray {
         ensures after { self.new ≡ record self.old { lines = touched line self.old.lines } }
         ensures held { held_of self.new.lines ≡ touched_line (mode_of line (held_of self.old.lines)) line (held_of self.old.lines) }
         ensures words { (k : ℕ) → words_of k self.new.lines ≡ words_of k self.old.lines }
+        ensures ways { (k : ℕ) → way_of k self.new.lines ≡ way_of k self.old.lines }
     {
-        entries::touch(&mut self.entries, line);
+        let way = self.held_way(line);
+        self.touch_in(way, line);
+    }
+
+    /// Makes the line that stands in a way of its set the most recently used.
+    pub fn touch_in(&mut self, way: u32, line: u32)
+        requires { way_of line self.old.lines ≡ Some way }
+        ensures after { self.new ≡ record self.old { lines = touched line self.old.lines } }
+        ensures held { held_of self.new.lines ≡ touched_line (mode_of line (held_of self.old.lines)) line (held_of self.old.lines) }
+        ensures words { (k : ℕ) → words_of k self.new.lines ≡ words_of k self.old.lines }
+        ensures ways { (k : ℕ) → way_of k self.new.lines ≡ way_of k self.old.lines }
+    {
+        let age = ages::take_age(&mut self.entries, self.next);
+        let place = places::place_in(&self.shape, &self.entries, line, way);
+        self.entries[place].age = age;
+        self.next = age + 1;
     }
 
     /// The line that has to leave before `line` can be put, where its set is full.
     pub fn victim(&self, line: u32) -> Option<u32>
         ensures { result ≡ option_map (λ h. h.0) (evicted self.now.shape line (held_of self.now.lines)) }
     {
-        let set = self.shape.set_of(line);
-        let mut count: usize = 0;
-        let mut last = None;
-        for entry in &self.entries {
-            if entry.line == line {
-                return None;
-            }
-            if self.shape.set_of(entry.line) == set {
-                count += 1;
-                last = Some(entry.line);
-            }
-        }
-        if count == self.shape.ways as usize {
-            last
-        } else {
-            None
+        match places::place_of(&self.shape, &self.entries, line) {
+            Some(_) => None,
+            None => places::oldest_of_set(&self.shape, &self.entries, line),
         }
     }
 
@@ -136,18 +198,17 @@ impl CacheArray {
     pub fn put(&mut self, line: u32, mode: Mode, words: &[u32])
         requires room { Holds line self.old.lines ⊎ (length (set_lines self.old.shape line (held_of self.old.lines)) < self.old.shape.ways) }
         requires words { length words.now ≡ self.old.shape.line_words }
-        ensures after { self.new ≡ record self.old { lines = put_first line mode words.now self.old.lines } }
+        ensures after { self.new ≡ record self.old { lines = put_first self.old.shape line mode words.now self.old.lines } }
         ensures held { held_of self.new.lines ≡ to_front line mode (held_of self.old.lines) }
         ensures words { (k : ℕ) → words_of k self.new.lines ≡ (if k == line then words.now else words_of k self.old.lines) }
+        ensures ways { (k : ℕ) → way_of k self.new.lines ≡ (if k == line
+            then Some (way_for self.old.shape line self.old.lines)
+            else way_of k self.old.lines) }
     {
-        entries::put_first(
-            &mut self.entries,
-            CachedLine {
-                line,
-                mode,
-                words: CachedWords::from_slice(words),
-            },
-        );
+        let age = ages::take_age(&mut self.entries, self.next);
+        let place = places::place_to_put(&self.shape, &self.entries, line);
+        self.entries[place].fill(age, line, mode, words);
+        self.next = age + 1;
     }
 
     /// Changes the mode of a line in its place.
@@ -156,9 +217,10 @@ impl CacheArray {
         ensures after { self.new ≡ record self.old { lines = with_line_mode line mode self.old.lines } }
         ensures held { held_of self.new.lines ≡ with_mode line mode (held_of self.old.lines) }
         ensures words { (k : ℕ) → words_of k self.new.lines ≡ words_of k self.old.lines }
+        ensures ways { (k : ℕ) → way_of k self.new.lines ≡ way_of k self.old.lines }
     {
-        let place = entries::held_place(&self.entries, line);
-        self.entries[place].mode = mode;
+        let place = places::held_place(&self.shape, &self.entries, line);
+        self.entries[place].cached.mode = mode;
     }
 
     /// Lets a line go, with its words.
@@ -167,9 +229,10 @@ impl CacheArray {
         ensures after { self.new ≡ record self.old { lines = others line self.old.lines } }
         ensures held { held_of self.new.lines ≡ without line (held_of self.old.lines) }
         ensures words { (k : ℕ) → words_of k self.new.lines ≡ (if k == line then [] else words_of k self.old.lines) }
+        ensures ways { (k : ℕ) → way_of k self.new.lines ≡ (if k == line then None else way_of k self.old.lines) }
     {
-        let place = entries::held_place(&self.entries, line);
-        self.entries.remove(place);
+        let place = places::held_place(&self.shape, &self.entries, line);
+        self.entries[place].held = false;
     }
 
     /// The word at an address.
@@ -178,9 +241,20 @@ impl CacheArray {
         requires held { Holds (line_of self.now.shape address) self.now.lines }
         ensures { result ≡ slice_index (words_of (line_of self.now.shape address) self.now.lines) (word_place self.now.shape address) }
     {
-        let place = entries::held_place(&self.entries, self.shape.line_of(address));
-        let word = address % self.shape.line_bytes() / 4;
-        self.entries[place].words.get(word as usize)
+        let way = self.held_way(address::line_of(&self.shape, address));
+        self.read_word_in(way, address)
+    }
+
+    /// The word at an address, whose line stands in this way of its set.
+    pub fn read_word_in(&self, way: u32, address: u32) -> u32
+        requires aligned { address % 4 ≡ 0 }
+        requires way { way_of (line_of self.now.shape address) self.now.lines ≡ Some way }
+        ensures { result ≡ slice_index (words_of (line_of self.now.shape address) self.now.lines) (word_place self.now.shape address) }
+    {
+        let line = address::line_of(&self.shape, address);
+        let place = places::place_in(&self.shape, &self.entries, line, way);
+        let word = address::word_of(&self.shape, address);
+        self.entries[place].cached.words.get(word)
     }
 
     /// Writes the word at an address. The line keeps its mode and its place.
@@ -194,11 +268,29 @@ impl CacheArray {
         ensures words { (k : ℕ) → words_of k self.new.lines ≡ (if k == line_of self.old.shape address
             then slice_set (words_of (line_of self.old.shape address) self.old.lines) (word_place self.old.shape address) word
             else words_of k self.old.lines) }
+        ensures ways { (k : ℕ) → way_of k self.new.lines ≡ way_of k self.old.lines }
     {
-        let place = entries::held_place(&self.entries, self.shape.line_of(address));
-        let at = address % self.shape.line_bytes() / 4;
-        let entry = &mut self.entries[place];
-        entry.words.set(at as usize, word);
+        let way = self.held_way(address::line_of(&self.shape, address));
+        self.write_word_in(way, address, word);
+    }
+
+    /// Writes the word at an address, whose line stands in this way of its set. The line keeps its mode and its place.
+    pub fn write_word_in(&mut self, way: u32, address: u32, word: u32)
+        requires aligned { address % 4 ≡ 0 }
+        requires way { way_of (line_of self.old.shape address) self.old.lines ≡ Some way }
+        ensures after { self.new ≡ record self.old {
+          lines = with_word (line_of self.old.shape address) (word_place self.old.shape address) word self.old.lines;
+        } }
+        ensures held { held_of self.new.lines ≡ held_of self.old.lines }
+        ensures words { (k : ℕ) → words_of k self.new.lines ≡ (if k == line_of self.old.shape address
+            then slice_set (words_of (line_of self.old.shape address) self.old.lines) (word_place self.old.shape address) word
+            else words_of k self.old.lines) }
+        ensures ways { (k : ℕ) → way_of k self.new.lines ≡ way_of k self.old.lines }
+    {
+        let line = address::line_of(&self.shape, address);
+        let place = places::place_in(&self.shape, &self.entries, line, way);
+        let at = address::word_of(&self.shape, address);
+        self.entries[place].cached.words.set(at, word);
     }
 
     /// Copies the words of a line.
@@ -206,9 +298,9 @@ impl CacheArray {
         requires { Holds line self.now.lines }
         ensures { words.new.items ≡ words_of line self.now.lines }
     {
-        let place = entries::held_place(&self.entries, line);
+        let place = places::held_place(&self.shape, &self.entries, line);
         words.clear();
-        let Ok(()) = words.try_extend_from_slice(self.entries[place].words.as_slice()) else {
+        let Ok(()) = words.try_extend_from_slice(self.entries[place].cached.words.as_slice()) else {
             unreachable!()
         };
     }

@@ -1,11 +1,15 @@
 //! One core's cache: its lines with their modes and words, most recently used first.
 #![tactic(auto)]
 
+mod address;
+mod ages;
 mod cache;
-mod entries;
+mod entry;
 mod line;
+mod order;
+mod places;
 
-pub use cache::CacheArray;
+pub use cache::{CacheArray, Found};
 pub use line::{CachedLine, CachedWords};
 
 #[cfg(test)]

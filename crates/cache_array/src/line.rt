@@ -58,12 +58,13 @@ impl CachedWords {
     }
 }
 
-/// A cached line: its number, its mode and its words.
+/// A cached line: its number, its mode, its words, and the way of its set in which it stands, from 0.
 #[derive(Drop)]
 pub struct CachedLine {
     pub line: u32,
     pub mode: Mode,
     pub words: CachedWords,
+    pub way: u32,
 }
 
 impl CachedLine {
@@ -75,6 +76,7 @@ impl CachedLine {
             line: self.line,
             mode: self.mode,
             words: CachedWords::from_slice(self.words.as_slice()),
+            way: self.way,
         }
     }
 }

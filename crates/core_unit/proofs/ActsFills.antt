@@ -45,12 +45,12 @@ use Rattle.core_unit.proofs.Words.{some_words}
 abbrev behind_of : Bool → Bool → Behind
 behind_of write any = if write then WriteBehind else if any then Reads else Nobody
 
-filled_held : (kind : Kind) (write any : Bool) (line : ℕ) (words : List ℕ) (lines : List CachedLine)
-    → held_of (lines_filled kind (behind_of write any) line words lines) ≡ filled_line kind write line (held_of lines)
-filled_held Read true any line words lines = refl
-filled_held Read false true line words lines = held_of-put_first line Shared words lines
-filled_held Read false false line words lines = held_of-put_first line Shared words lines
-filled_held Write write any line words lines = held_of-put_first line Modified words lines
+filled_held : (shape : Geometry) (kind : Kind) (write any : Bool) (line : ℕ) (words : List ℕ) (lines : List CachedLine)
+    → held_of (lines_filled shape kind (behind_of write any) line words lines) ≡ filled_line kind write line (held_of lines)
+filled_held shape Read true any line words lines = refl
+filled_held shape Read false true line words lines = held_of-put_first shape line Shared words lines
+filled_held shape Read false false line words lines = held_of-put_first shape line Shared words lines
+filled_held shape Write write any line words lines = held_of-put_first shape line Modified words lines
 
 filled_backs : (kind : Kind) (write any : Bool) (line : ℕ) (lines : List ℕ) → (write ≡ true → any ≡ true)
     → backs_filled kind (behind_of write any) line lines ≡ append_demanded kind any line lines
@@ -117,22 +117,22 @@ module _ (job : JobValue) (s : ℕ) (y : Machine) (c : ℕ) (want : Want) (words
       ∙ met_there job.shape want.access y.memory words some fit.aligned small read_there
 
   -- the line in the cache
-  put_agree : (new : Mode) → CopiesAgree job (memory_after want.access y.memory) (put_first want.line new (words_with job.shape want.access words) v.cache.lines)
+  put_agree : (new : Mode) → CopiesAgree job (memory_after want.access y.memory) (put_first v.cache.shape want.line new (words_with job.shape want.access words) v.cache.lines)
   put_agree new =
       copies_put job.shape.line_words y.memory (memory_after want.access y.memory)
-      (λ l. mode_of l (held_of v.cache.lines)) (λ l. mode_of l (held_of (put_first want.line new (words_with job.shape want.access words) v.cache.lines)))
-      (λ l. words_of l v.cache.lines) (λ l. words_of l (put_first want.line new (words_with job.shape want.access words) v.cache.lines))
+      (λ l. mode_of l (held_of v.cache.lines)) (λ l. mode_of l (held_of (put_first v.cache.shape want.line new (words_with job.shape want.access words) v.cache.lines)))
+      (λ l. words_of l v.cache.lines) (λ l. words_of l (put_first v.cache.shape want.line new (words_with job.shape want.access words) v.cache.lines))
       want.line new (words_with job.shape want.access words) (length-memory_after want.access y.memory) new_there
       (λ l place below away within. other_word job.shape want.access y.memory words some fit.aligned small read_there l place below (λ same. away (same ∙ sym f.asked.line)) within)
-      (λ l. ap (mode_of l) (held_of-put_first want.line new (words_with job.shape want.access words) v.cache.lines) ∙ mode_to_front l want.line new (held_of v.cache.lines))
-      (λ l. words_of-put_first want.line l new (words_with job.shape want.access words) v.cache.lines)
+      (λ l. ap (mode_of l) (held_of-put_first v.cache.shape want.line new (words_with job.shape want.access words) v.cache.lines) ∙ mode_to_front l want.line new (held_of v.cache.lines))
+      (λ l. words_of-put_first v.cache.shape want.line l new (words_with job.shape want.access words) v.cache.lines)
       f.core_in.stands.carries.agree
 
   kept_agree : want.kind ≡ Read → CopiesAgree job (memory_after want.access y.memory) v.cache.lines
   kept_agree reads = subst (λ (m : List ℕ). CopiesAgree job m v.cache.lines) (sym (read_after want.access y.memory fit (sym f.asked.kind ∙ reads))) f.core_in.stands.carries.agree
 
   agree_by : (kind : Kind) (behind : Behind) → want.kind ≡ kind
-      → CopiesAgree job (memory_after want.access y.memory) (lines_filled kind behind want.line (words_with job.shape want.access words) v.cache.lines)
+      → CopiesAgree job (memory_after want.access y.memory) (lines_filled v.cache.shape kind behind want.line (words_with job.shape want.access words) v.cache.lines)
   agree_by Read Nobody reads = put_agree Shared
   agree_by Read Reads reads = put_agree Shared
   agree_by Read WriteBehind reads = kept_agree reads
@@ -166,8 +166,8 @@ module _ (job : JobValue) (s : ℕ) (y : Machine) (c : ℕ) (want : Want) (words
       ∙ ap (λ (bytes : List ℕ). core_with bytes (filled_line want.kind (has_write want.line (removed c y.posted)) want.line (held_of v.cache.lines)) (append_demanded want.kind (has_request want.line (removed c y.posted)) want.line v.pending.write_backs))
       (sym (met_there job.shape want.access y.memory words some fit.aligned small read_there))
       ∙ ap (λ (held : List (ℕ × Mode)). core_with (covered want.access (met_among job.shape want.access words)) held (append_demanded want.kind (has_request want.line (removed c y.posted)) want.line v.pending.write_backs))
-      (sym (filled_held want.kind (has_write want.line (removed c y.posted)) (has_request want.line (removed c y.posted)) want.line (words_with job.shape want.access words) v.cache.lines))
-      ∙ ap (λ (backs : List ℕ). core_with (covered want.access (met_among job.shape want.access words)) (held_of (lines_filled want.kind (behind_in want.line (removed c y.posted)) want.line (words_with job.shape want.access words) v.cache.lines)) backs)
+      (sym (filled_held v.cache.shape want.kind (has_write want.line (removed c y.posted)) (has_request want.line (removed c y.posted)) want.line (words_with job.shape want.access words) v.cache.lines))
+      ∙ ap (λ (backs : List ℕ). core_with (covered want.access (met_among job.shape want.access words)) (held_of (lines_filled v.cache.shape want.kind (behind_in want.line (removed c y.posted)) want.line (words_with job.shape want.access words) v.cache.lines)) backs)
       (sym (filled_backs want.kind (has_write want.line (removed c y.posted)) (has_request want.line (removed c y.posted)) want.line v.pending.write_backs (write_waits want.line (removed c y.posted))))
 
   requested : request_of c y.posted ≡ Some (record { core = c; line = want.line; kind = want.kind })

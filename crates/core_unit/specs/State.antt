@@ -139,11 +139,11 @@ abbrev pub words_with : Geometry → Access → List ℕ → List ℕ
 words_with shape access words = slice_set words (word_place shape access.address) (number_of (bytes_after access (met_among shape access words)))
 
 -- a write leaves the line modified, a read shared, unless a write is queued behind it
-abbrev pub lines_filled : Kind → Behind → ℕ → List ℕ → List CachedLine → List CachedLine
-lines_filled Read Nobody line words lines = put_first line Shared words lines
-lines_filled Read Reads line words lines = put_first line Shared words lines
-lines_filled Read WriteBehind line words lines = lines
-lines_filled Write behind line words lines = put_first line Modified words lines
+abbrev pub lines_filled : Geometry → Kind → Behind → ℕ → List ℕ → List CachedLine → List CachedLine
+lines_filled shape Read Nobody line words lines = put_first shape line Shared words lines
+lines_filled shape Read Reads line words lines = put_first shape line Shared words lines
+lines_filled shape Read WriteBehind line words lines = lines
+lines_filled shape Write behind line words lines = put_first shape line Modified words lines
 
 -- whoever owns the line now has to write it back, if requests are queued
 abbrev pub backs_filled : Kind → Behind → ℕ → List ℕ → List ℕ
@@ -161,7 +161,7 @@ claimed_filled Write WriteBehind line lines = append_once line lines
 -- the line comes into the cache as it is once the access is done
 abbrev pub with_filled : Want → List ℕ → Behind → State → State
 with_filled want words behind v = record v {
-  cache = record v.cache { lines = lines_filled want.kind behind want.line words v.cache.lines };
+  cache = record v.cache { lines = lines_filled v.cache.shape want.kind behind want.line words v.cache.lines };
   pending = record v.pending { write_backs = backs_filled want.kind behind want.line v.pending.write_backs };
   claimed = claimed_filled want.kind behind want.line v.claimed;
 }
