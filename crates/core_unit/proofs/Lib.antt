@@ -1,4 +1,5 @@
 mod Words
+mod Programs
 mod Carried
 mod Copies
 mod Steps

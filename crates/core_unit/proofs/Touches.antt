@@ -98,21 +98,6 @@ word_effect : (job : JobValue) (c : ℕ) (memory : List ℕ) (v : State) (word :
 word_effect job c memory v word instr effect s reads asks =
     ap (effect_of_word job.shape word (core_of v)) reads ∙ sym (asks ∙ ap (λ (g : Geometry). effect_of instr v.regs v.pc g.memory) s.shape)
 
--- one that asks for no access
-pub touches_none : (job : JobValue) (c : ℕ) (memory : List ℕ) (v u : State) (word : ℕ) (instr : Instr) (effect : Effect) → Carries job c memory v → instr_of word ≡ Some instr
-    → effect ≡ effect_of instr v.regs v.pc v.shape.memory → access_if_permitted job.shape (core_of v) effect ≡ None → u.touches.items ≡ v.touches.items
-    → HasTouched (touch_list v.slot c (access_if_permitted job.shape (core_of v) (effect_of_word job.shape word (core_of v) (instr_of word))) memory) v u
-touches_none job c memory v u word instr effect s reads asks none same =
-    untouched v.slot c memory v u (access_if_permitted job.shape (core_of v) (effect_of_word job.shape word (core_of v) (instr_of word)))
-    (ap (access_if_permitted job.shape (core_of v)) (word_effect job c memory v word instr effect s reads asks) ∙ none) same
-
--- a word that stands for none
-pub touches_illegal : (job : JobValue) (c : ℕ) (memory : List ℕ) (v u : State) (word : ℕ) → instr_of word ≡ None → u.touches.items ≡ v.touches.items
-    → HasTouched (touch_list v.slot c (access_if_permitted job.shape (core_of v) (effect_of_word job.shape word (core_of v) (instr_of word))) memory) v u
-touches_illegal job c memory v u word reads same =
-    untouched v.slot c memory v u (access_if_permitted job.shape (core_of v) (effect_of_word job.shape word (core_of v) (instr_of word)))
-    (ap (λ (o : Option Instr). access_if_permitted job.shape (core_of v) (effect_of_word job.shape word (core_of v) o)) reads) same
-
 -- one that asks for an access
 pub touches_memory : (job : JobValue) (c : ℕ) (memory : List ℕ) (v u : State) (word : ℕ) (instr : Instr) (regs : List ℕ) (access : Access) → Carries job c memory v
     → instr_of word ≡ Some instr → Memory access ≡ effect_of instr v.regs v.pc v.shape.memory → regs ≡ v.regs

@@ -1,5 +1,5 @@
 -- What the parts of a slot do to a core.
-use Rattle.std.specs.Prelude.{ℕ, ◌+◌, List, [], ◌∷◌, ◌++◌, not, ◌&&◌, slice_index, slice_set, Bool, false, Option, Some, None, if◌then◌else◌}
+use Rattle.std.specs.Prelude.{◌≡◌, ℕ, ◌+◌, List, [], ◌∷◌, ◌++◌, not, ◌&&◌, slice_index, slice_set, Bool, false, Option, Some, None, if◌then◌else◌}
 use Rattle.std.specs.Option.{option_map}
 use Rattle.pmsi_model.specs.declared.job.Geometry.{Geometry}
 use Rattle.pmsi_model.specs.declared.Access.{Access}
@@ -27,7 +27,7 @@ use Rattle.pmsi_model.specs.Phase.{evicted, victim_of, append_victim}
 use Rattle.pmsi_model.specs.Bus.{clear_victim, has_victim_for, kind_of_name, name_of, post_at}
 use Rattle.pmsi_model.specs.Shared.{SharedValue, line_in, fills_at_once as at_once}
 use Rattle.cache_array.specs.declared.line.CachedLine.{CachedLine}
-use Rattle.cache_array.specs.Cache.{CacheValue, held_of, words_of, word_place, others, with_word, with_line_mode, put_first}
+use Rattle.cache_array.specs.Cache.{CacheValue, held_of, words_of, word_place, way_of, others, with_word, with_line_mode, put_first}
 use Rattle.core_unit.specs.declared.state.State.{State}
 use Rattle.core_unit.specs.Lines.{without_line}
 
@@ -53,6 +53,10 @@ abbrev pub with_lines : List CachedLine → State → State
 with_lines lines v = record v { cache = record v.cache { lines = lines } }
 
 -- ---- an access with permission
+
+-- each line stands in its way as before
+abbrev pub KeepsWays : List CachedLine → List CachedLine → Type 0
+KeepsWays before after = (line : ℕ) → way_of line after ≡ way_of line before
 
 -- only a write changes the word
 abbrev pub lines_after : Kind → ℕ → ℕ → ℕ → List CachedLine → List CachedLine

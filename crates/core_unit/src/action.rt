@@ -8,7 +8,8 @@ ghost use Rattle.pmsi_model.specs.Coherent.{victim_in};
 ghost use Rattle.pmsi_model.specs.Geometry.{IsGeometry};
 ghost use Rattle.pmsi_model.specs.Job.{JobValue};
 ghost use Rattle.pmsi_model.specs.Parts.{IsBusPart};
-ghost use Rattle.pmsi_model.specs.Shared.{IsOwnSlot};
+ghost use Rattle.pmsi_model.specs.Shared.{IsOwnSlot, is_ready};
+ghost use Rattle.pend_buffers.specs.Pending.{choice_of};
 ghost use Rattle.core_unit.specs.State.{filled_on, keeps, met_among, name_for, retired_on, with_filled, with_want, words_with};
 ghost use Rattle.core_unit.specs.Stands.{CanServe, CanTake, HasTouchRoom};
 ghost use Rattle.core_unit.specs.Parts.{CanAct, IsPartAfter};
@@ -185,6 +186,18 @@ impl State {
         }
     }
 
+    /// What the core does in its own slot. Whether its request can be served is asked only where it is posted.
+    fn choose<P: BusPort>(&self, bus: &P) -> Choice
+        requires { self.now.number < (P.side bus.now).memory.shape.cores }
+        ensures { result ≡ choice_of (is_ready (P.side bus.now).memory self.now.number) self.now.pending }
+    {
+        if self.pending.is_posted() {
+            self.pending.choose(bus.ready(self.number))
+        } else {
+            self.pending.choose(false)
+        }
+    }
+
     /// Does the action of the slot, which is the core's.
     pub fn act<P: BusPort>(&mut self, bus: &mut P) -> Action
         requires { CanAct self.old (P.side bus.old) }
@@ -193,7 +206,7 @@ impl State {
         ensures keeps { self.new.keeps ≡ self.old.keeps }
         ensures bus_keeps { (P.side bus.new).keeps ≡ (P.side bus.old).keeps }
     {
-        let action = match self.pending.choose(bus.ready(self.number)) {
+        let action = match self.choose(bus) {
             Choice::Idle => {
                 bus.idle(self.number);
                 Action::Idle

@@ -7,6 +7,7 @@ pub mod laws;
 mod lines;
 mod opening;
 mod phase;
+mod program;
 mod reserved;
 mod retire;
 mod snoop;

@@ -1,5 +1,5 @@
 //! A core's phase of a slot: at most a quantum of instructions.
-ghost use Rattle.std.specs.Prelude.{◌≡◌, ℕ, ◌+◌, ◌/◌, ◌%◌, ◌^◌, ◌<◌, length, true, None, slice_get};
+ghost use Rattle.std.specs.Prelude.{◌≡◌, ℕ, ◌+◌, ◌%◌, ◌^◌, ◌<◌, length, true, IfSome, Some, None, is_some};
 ghost use Rattle.pmsi_model.specs.Access.{kind_of, width_of};
 ghost use Rattle.pmsi_model.specs.Effect.{Memory as MemoryEffect};
 ghost use Rattle.pmsi_model.specs.Geometry.{IsGeometry, line_of};
@@ -7,16 +7,16 @@ ghost use Rattle.pmsi_model.specs.Instruction.{instr_of};
 ghost use Rattle.pmsi_model.specs.Job.{JobValue};
 ghost use Rattle.pmsi_model.specs.Machine.{is_modified, mode_of};
 ghost use Rattle.pmsi_model.specs.Phase.{can_run, effect_of_word, permits, victim_of};
-ghost use Rattle.cache_array.specs.Cache.{Holds, IsCache, held_of, others, word_place};
+ghost use Rattle.cache_array.specs.Cache.{Holds, IsCache, held_of, others, way_of};
 ghost use Rattle.rv_exec.specs.Effects.{IsAccessTo};
-ghost use Rattle.core_unit.specs.State.{core_of, gone_for, lines_left, performed, wanting, with_lines, with_room};
+ghost use Rattle.core_unit.specs.State.{KeepsWays, core_of, gone_for, lines_left, performed, wanting, with_lines, with_room};
 ghost use Rattle.core_unit.specs.Stands.{CanExecute, HasTouchRoom, SameRun, StandsAfter, StandsNext, TouchesAfter, TouchesNext};
 ghost use Rattle.core_unit.specs.Parts.{CanPhase, IsPart, IsPartAfter};
 ghost use Rattle.core_unit.specs.Phases.{IsInPhase};
 
+use crate::program::Fetched;
 use crate::state::State;
 use pmsi_model::{Access, AccessOp, Halt, Kind, Mode, Status, Want};
-use rv_decode::decode;
 use rv_exec::{Effect, exec};
 
 impl State {
@@ -24,37 +24,39 @@ impl State {
         ensures { result ≡ can_run (core_of self.now) }
     {
         match self.status {
-            Status::Running => self.pending.want().is_none(),
+            Status::Running => !self.pending.has_want(),
             Status::Halted(_) => false,
         }
     }
 
     /// Leaves a word in the cache after an access to it: a store or an atomic operation writes it, a load leaves it as it is.
-    fn leave(&mut self, op: AccessOp, address: u32, word: u32)
+    fn leave(&mut self, op: AccessOp, way: u32, address: u32, word: u32)
         requires aligned { address % 4 ≡ 0 }
-        requires held { Holds (line_of self.old.cache.shape address) self.old.cache.lines }
-        ensures { self.new ≡ with_lines (lines_left op address word self.old.cache) self.old }
+        requires way { way_of (line_of self.old.cache.shape address) self.old.cache.lines ≡ Some way }
+        ensures after { self.new ≡ with_lines (lines_left op address word self.old.cache) self.old }
+        ensures ways { KeepsWays self.old.cache.lines self.new.cache.lines }
     {
         match op {
             AccessOp::Load(_) => {}
-            AccessOp::Store(_) | AccessOp::Amo(_) => self.cache.write_word(address, word),
+            AccessOp::Store(_) | AccessOp::Amo(_) => self.cache.write_word_in(way, address, word),
         }
     }
 
     /// Does an access on the word of the cached line, and retires its instruction.
-    fn perform(&mut self, access: Access)
+    fn perform(&mut self, access: Access, way: u32)
         requires aligned { access.address % width_of access.op ≡ 0 }
         requires shape { IsGeometry self.old.cache.shape }
-        requires held { Holds (line_of self.old.cache.shape access.address) self.old.cache.lines }
+        requires way { way_of (line_of self.old.cache.shape access.address) self.old.cache.lines ≡ Some way }
         requires retires { self.old.retired + 1 < 2 ^ 64 }
         requires room { HasTouchRoom self.old }
-        ensures { self.new ≡ performed access self.old }
+        ensures after { self.new ≡ performed access self.old }
+        ensures ways { KeepsWays self.old.cache.lines self.new.cache.lines }
     {
         let Access { op, address, .. } = access;
         let aligned = address - address % 4;
-        let met = self.cache.read_word(aligned);
+        let met = self.cache.read_word_in(way, aligned);
         let left = self.retire(access, met);
-        self.leave(op, aligned, left);
+        self.leave(op, way, aligned, left);
     }
 
     /// Whether the core holds a line modified.
@@ -68,12 +70,16 @@ impl State {
         }
     }
 
-    fn permits(&self, kind: Kind, line: u32) -> bool
-        ensures { result ≡ permits kind (mode_of line (held_of self.now.cache.lines)) }
+    /// The way of a line for which an access of this kind has permission; none where it has to wait.
+    fn permitted_way(&self, kind: Kind, line: u32) -> Option<u32>
+        ensures permits { is_some result ≡ permits kind (mode_of line (held_of self.now.cache.lines)) }
+        ensures way { IfSome result (λ way. way_of line self.now.cache.lines ≡ Some way) }
+        ensures cache { IsCache self.now.cache }
     {
-        match kind {
-            Kind::Read => self.cache.find(line).is_some(),
-            Kind::Write => self.owns(line),
+        let found = self.cache.look_up(line)?;
+        match (kind, found.mode) {
+            (Kind::Read, _) | (Kind::Write, Mode::Modified) => Some(found.way),
+            (Kind::Write, Mode::Shared) => None,
         }
     }
 
@@ -128,23 +134,24 @@ impl State {
         ensures touched { TouchesAfter (λ job. MemoryEffect access) self.old self.new }
     {
         let line = self.shape.line_of(access.address);
-        if self.permits(access.op.kind(), line) {
-            self.perform(access);
-            self.cache.touch(line);
-        } else {
-            self.miss(access, line);
+        match self.permitted_way(access.op.kind(), line) {
+            Some(way) => {
+                self.perform(access, way);
+                self.cache.touch_in(way, line);
+            }
+            None => self.miss(access, line),
         }
     }
 
     /// Executes a fetched word.
-    fn execute(&mut self, word: u32)
+    fn execute(&mut self, fetched: Fetched)
         requires { CanExecute self.old }
         ensures same { SameRun self.old self.new }
-        ensures stands { StandsAfter (λ job. effect_of_word job.shape word (core_of self.old) (instr_of word)) self.old self.new }
-        ensures touched { TouchesAfter (λ job. effect_of_word job.shape word (core_of self.old) (instr_of word)) self.old self.new }
+        ensures stands { StandsAfter (λ job. effect_of_word job.shape fetched (core_of self.old) (instr_of fetched)) self.old self.new }
+        ensures touched { TouchesAfter (λ job. effect_of_word job.shape fetched (core_of self.old) (instr_of fetched)) self.old self.new }
     {
-        let Some(instr) = decode(word) else {
-            self.status = Status::Halted(Halt::Illegal(word));
+        let Some(instr) = fetched.instr() else {
+            self.status = Status::Halted(Halt::Illegal(fetched.word()));
             return;
         };
         match exec(instr, &mut self.regs, self.pc, self.shape.memory) {
@@ -157,13 +164,6 @@ impl State {
         }
     }
 
-    /// The word at the pc, if the pc is in the text.
-    fn fetch_word(&self) -> Option<u32>
-        ensures { result ≡ slice_get self.now.text (self.now.pc / 4) }
-    {
-        self.text.as_slice().get((self.pc / 4) as usize).copied()
-    }
-
     /// Takes the instruction at the pc.
     fn instruction(&mut self)
         requires ready { CanExecute self.old }
@@ -172,8 +172,8 @@ impl State {
         ensures stands { StandsNext self.old self.new }
         ensures touched { TouchesNext self.old self.new }
     {
-        match self.fetch_word() {
-            Some(word) => self.execute(word),
+        match self.text.fetch((self.pc / 4) as usize) {
+            Some(fetched) => self.execute(fetched),
             None => self.status = Status::Halted(Halt::FetchRange(self.pc)),
         }
     }

@@ -2,10 +2,11 @@
 ghost use Rattle.std.specs.Prelude.{◌≡◌, IfOk};
 
 use crate::lines::LineSet;
+use crate::program::Program;
 use crate::reserved::ReservedList;
 use cache_array::CacheArray;
 use pend_buffers::Pending;
-use pmsi_model::{Geometry, NoMemory, Row, SlotTable, Status, Touch, Words};
+use pmsi_model::{Geometry, NoMemory, Row, SlotTable, Status, Touch};
 use rv_exec::Regs;
 use std::alloc::Global;
 
@@ -15,7 +16,7 @@ pub struct State {
     pub number: u32,
     pub shape: Geometry,
     pub plan: SlotTable,
-    pub text: Words,
+    pub text: Program,
     pub slot: u32,
     /// The phase of the slot is done, and the slot's action isn't done or snooped yet.
     pub phase_done: bool,
@@ -44,7 +45,7 @@ impl State {
             number: self.number,
             shape: self.shape,
             plan: self.plan.copy(),
-            text: Words::from_vec(Vec::from_slice(alloc, self.text.as_slice())?),
+            text: self.text.copy(alloc)?,
             slot: self.slot,
             phase_done: self.phase_done,
             regs: self.regs.copy(),

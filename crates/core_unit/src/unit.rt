@@ -6,12 +6,13 @@ ghost use Rattle.pmsi_model.specs.Job.{JobValue};
 ghost use Rattle.pmsi_model.specs.Parts.{IsBusPart};
 
 use crate::lines::LineSet;
+use crate::program::Program;
 use crate::reserved::ReservedList;
 use crate::state::State;
 use cache_array::CacheArray;
 use pend_buffers::Pending;
 use pmsi_model::{
-    Action, BusPort, Geometry, Job, Keep, NoMemory, Reg, Row, SlotTable, Status, Touch, Words,
+    Action, BusPort, Geometry, Job, Keep, NoMemory, Reg, Row, SlotTable, Status, Touch,
 };
 use rv_exec::Regs;
 use slot_plan::count_own;
@@ -49,7 +50,7 @@ impl Core {
     {
         let shape = job.shape();
         let plan = SlotTable::plain(shape.cores);
-        let text = Vec::from_slice(alloc, job.text(core).as_slice())?;
+        let text = Program::decoded(alloc, job.text(core).as_slice())?;
         let rows = count_own(&plan, core, shape.slots) as usize;
         let touches = if keep.touches {
             (shape.slots * shape.quantum) as usize
@@ -61,7 +62,7 @@ impl Core {
                 number: core,
                 shape,
                 plan,
-                text: Words::from_vec(text),
+                text,
                 slot: 0,
                 phase_done: false,
                 regs: Regs::start(core, shape.cores),

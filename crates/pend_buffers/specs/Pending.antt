@@ -29,6 +29,11 @@ abbrev pub can_ask : Bool → Option Want → Bool
 can_ask ready None = false
 can_ask ready (Some want) = if is_some want.post then ready else is_none want.victim
 
+-- the want's request is posted
+abbrev pub is_posted : Option Want → Bool
+is_posted None = false
+is_posted (Some want) = is_some want.post
+
 -- where both are possible the turn decides; where one is possible it is done
 abbrev pub choice_of : Bool → PendingValue → Choice
 choice_of ready p =

@@ -4,7 +4,7 @@ ghost use Rattle.pmsi_model.specs.declared.limits.TheConstants.{MAX_CORES};
 ghost use Rattle.pmsi_model.specs.declared.Turn.TheVariants.{Request as RequestTurn};
 ghost use Rattle.pmsi_model.specs.Bus.{can_write_back, post_at};
 ghost use Rattle.pmsi_model.specs.Machine.{has_line};
-ghost use Rattle.pend_buffers.specs.Pending.{IsPending, can_ask, choice_of, first_in, place_in, without_victim};
+ghost use Rattle.pend_buffers.specs.Pending.{IsPending, can_ask, choice_of, first_in, is_posted, place_in, without_victim};
 
 use crate::Choice;
 use crate::queue::LineQueue;
@@ -96,6 +96,23 @@ impl Pending {
         ensures { result ≡ self.now.want }
     {
         self.want
+    }
+
+    /// Whether the core waits for a line.
+    pub fn has_want(&self) -> bool
+        ensures { result ≡ is_some self.now.want }
+    {
+        self.want.is_some()
+    }
+
+    /// Whether the core waits for a line whose request is posted.
+    pub fn is_posted(&self) -> bool
+        ensures { result ≡ is_posted self.now.want }
+    {
+        match self.want {
+            None => false,
+            Some(want) => want.post.is_some(),
+        }
     }
 
     /// Begins a want, where none stands.

@@ -1,4 +1,4 @@
-use Rattle.std.proofs.Common.{◌≡◌, ◌+◌, ◌^◌, ◌<◌, Bool, ◌∙◌, sym, ap, arith}
+use Rattle.std.proofs.Common.{◌≡◌, ◌+◌, ◌^◌, ◌<◌, ◌∙◌, sym, ap, arith}
 use Rattle.pmsi_model.specs.Shared.{is_ready}
 use Rattle.pend_buffers.specs.declared.Choice.TheVariants.{Idle as IdleChoice, Request as RequestChoice, Back as BackChoice}
 use Rattle.pend_buffers.specs.Pending.{choice_of}
@@ -11,7 +11,7 @@ pub request-action-requires-clause-can : goal.request-action-requires-clause-can
 request-action-requires-clause-can g c = let v = c.args.self.now in let b = g.P.BusPort.side c.args.bus.now in let can = c.requires in λ want wants.
     can_request can.job v.slot can.core v b can.part can.bus can.own want wants
     (requests can.job v.slot can.core v b can.part can.bus can.own
-    (ap (λ (ready : Bool). choice_of ready v.pending) (sym c.ready.ensures) ∙ sym c.choose.ensures.choice ∙ c.in-Request.is))
+    (sym c.choose.ensures ∙ c.in-Request.is))
 
 pub write_back-action-requires-clause-first : goal.write_back-action-requires-clause-first
 write_back-action-requires-clause-first g c = let v = c.args.self.now in let can = c.requires in
@@ -23,8 +23,7 @@ all : (g : Over) (c : Joined-choose g)
 all g c =
     let v = c.args.self.now in let b = g.P.BusPort.side c.args.bus.now in
     let action = c.match-choose.action in let w = c.match-choose.self in let after = g.P.BusPort.side c.match-choose.bus in
-    let chose : choice_of (is_ready b.memory v.number) v.pending ≡ c.choose.result =
-    ap (λ (ready : Bool). choice_of ready v.pending) (sym c.ready.ensures) ∙ sym c.choose.ensures.choice in
+    let chose : choice_of (is_ready b.memory v.number) v.pending ≡ c.choose.result = sym c.choose.ensures in
     elim c.match-choose.branch [
       | in-Idle d ↦ done v b c.requires action w after IdleChoice (chose ∙ d.in-Idle.is) (d.action-is, d.self-is, ap g.P.BusPort.side d.bus-is ∙ d.idle.ensures)
       | in-Request d ↦ done v b c.requires action w after RequestChoice (chose ∙ d.in-Request.is)

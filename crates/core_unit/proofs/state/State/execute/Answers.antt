@@ -1,18 +1,18 @@
-use Rattle.std.proofs.Common.{◌∙◌, sym}
-use Rattle.pmsi_model.proofs.Encodings.{reads_one_way}
+use Rattle.std.proofs.Common.{◌∙◌, sym, subst, IfSome}
+use Rattle.pmsi_model.specs.Instruction.{HasRow}
 use Rattle.core_unit.proofs.Steps.{asks_memory}
 use Rattle.core_unit.proofs.Touches.{touches_memory}
 use Rattle.core_unit.proofs.state.State.execute.Goals as goal
 
 pub exec-requires : goal.exec-requires
-exec-requires c = (c.args.word, (reads_one_way c.args.word c.in-Some.instr c.ranges.word.fits).1 (sym c.decode.ensures ∙ c.in-Some.is))
+exec-requires c = subst (λ instr. IfSome instr HasRow) c.in-Some.is c.instr.ensures.row
 
 pub returns-in-Memory-clause-stands : goal.returns-in-Memory-clause-stands
 returns-in-Memory-clause-stands c = λ job c' memory s.
-    asks_memory job c' memory c.args.self.now c.access.new.self c.args.word c.in-Some.instr c.exec.new.regs c.in-Memory.access s (sym c.decode.ensures ∙ c.in-Some.is)
+    asks_memory job c' memory c.args.self.now c.access.new.self c.args.fetched c.in-Some.instr c.exec.new.regs c.in-Memory.access s (sym c.instr.ensures.value ∙ c.in-Some.is)
     c.in-Memory.ensures.effect c.in-Memory.ensures.writes (c.access.ensures.stands job c' memory)
 
 pub returns-in-Memory-clause-touched : goal.returns-in-Memory-clause-touched
 returns-in-Memory-clause-touched c = λ job c' memory s.
-    touches_memory job c' memory c.args.self.now c.access.new.self c.args.word c.in-Some.instr c.exec.new.regs c.in-Memory.access s (sym c.decode.ensures ∙ c.in-Some.is)
+    touches_memory job c' memory c.args.self.now c.access.new.self c.args.fetched c.in-Some.instr c.exec.new.regs c.in-Memory.access s (sym c.instr.ensures.value ∙ c.in-Some.is)
     c.in-Memory.ensures.effect c.in-Memory.ensures.writes (c.access.ensures.touched job c' memory)

@@ -10,9 +10,9 @@ invariant_of-result c = record {
   core = c.args.core;
   part = inl (opened_by c.args.job.now c.args.core c.count_own-rows.result c.if-keep.touches c.args.keep.touches c.shape-shape.result _
       c.shape-shape.ensures.within c.requires.core c.shape-shape.ensures.shape
-      (parts_by c.args.job.now c.args.core c.count_own-rows.result c.if-keep.touches c.shape-shape.result c.plain-plan.result c.from_vec.result c.start.result
+      (parts_by c.args.job.now c.args.core c.count_own-rows.result c.if-keep.touches c.shape-shape.result c.plain-plan.result c.in_ok-text.text c.start.result
       c.in_ok-new.field-0 c.new-2.result c.new-3.result c.in_ok-with_room.field-0 c.in_ok-with_room-2.field-0
-      c.shape-shape.ensures.shape c.plain-plan.ensures (c.from_vec.ensures ∙ c.in_ok-text.ensures.items ∙ c.as_slice.ensures ∙ c.text.ensures) c.start.ensures
+      c.shape-shape.ensures.shape c.plain-plan.ensures (c.in_ok-text.ensures ∙ c.as_slice.ensures ∙ c.text.ensures) c.start.ensures
       c.in_ok-new.ensures c.new-2.ensures c.new-3.ensures c.in_ok-with_room.ensures c.in_ok-with_room-2.ensures)
       c.count_own-rows.ensures
       (λ kept. elim c.if-keep.branch [
@@ -24,9 +24,9 @@ invariant_of-result c = record {
 pub returns-clause-part : goal.returns-clause-part
 returns-clause-part c = opened_by c.args.job.now c.args.core c.count_own-rows.result c.if-keep.touches c.args.keep.touches c.shape-shape.result _
     c.shape-shape.ensures.within c.requires.core c.shape-shape.ensures.shape
-    (parts_by c.args.job.now c.args.core c.count_own-rows.result c.if-keep.touches c.shape-shape.result c.plain-plan.result c.from_vec.result c.start.result
+    (parts_by c.args.job.now c.args.core c.count_own-rows.result c.if-keep.touches c.shape-shape.result c.plain-plan.result c.in_ok-text.text c.start.result
     c.in_ok-new.field-0 c.new-2.result c.new-3.result c.in_ok-with_room.field-0 c.in_ok-with_room-2.field-0
-    c.shape-shape.ensures.shape c.plain-plan.ensures (c.from_vec.ensures ∙ c.in_ok-text.ensures.items ∙ c.as_slice.ensures ∙ c.text.ensures) c.start.ensures
+    c.shape-shape.ensures.shape c.plain-plan.ensures (c.in_ok-text.ensures ∙ c.as_slice.ensures ∙ c.text.ensures) c.start.ensures
     c.in_ok-new.ensures c.new-2.ensures c.new-3.ensures c.in_ok-with_room.ensures c.in_ok-with_room-2.ensures)
     c.count_own-rows.ensures
     (λ kept. elim c.if-keep.branch [
