@@ -3,9 +3,9 @@ use Rattle.std.proofs.Common.{◌≡◌, ◌≢◌, ℕ, ◌+◌, ◌<◌, ◌�
 use Rattle.std.proofs.lemmas.List.{get_or_default}
 use mathlib.Core.Logic.{dite}
 use native.Mathlib.Decide.{ℕ_discrete}
-use Rattle.bus_lock.specs.Answers.{SameSeat}
-use Rattle.bus_lock.specs.declared.view.View.{View}
-use Rattle.bus_lock.specs.declared.seat.SharedBus.{SharedBus}
+use Rattle.turn_bus.specs.Answers.{SameSeat}
+use Rattle.turn_bus.specs.declared.view.View.{View}
+use Rattle.turn_bus.specs.declared.seat.TurnBus.{TurnBus}
 use Rattle.core_worker.specs.declared.member.Member.{Member}
 use Rattle.core_worker.specs.Members.{IsMember, GoesOn, IsOver, AreMembers, GoOn, AreOver, IsRound}
 
@@ -15,7 +15,7 @@ module _ (ms : List Member) (c : ℕ) (m : Member) (below : c < length ms) where
       (λ same. subst (λ n. P n (get_or (set ms c m) n other)) (sym same) (subst (P c) (sym (get_or-set_same ms c m other below)) own))
       (λ differs. subst (P d) (sym (get_or-set_other ms c d m other differs)) (others differs))
 
-pub begins : (bus : SharedBus) (old : List Member) → IsRound bus old old 0 false
+pub begins : (bus : TurnBus) (old : List Member) → IsRound bus old old 0 false
 begins bus old = record {
   all = refl;
   tried = λ k d none. absurd (omega arith);
@@ -23,7 +23,7 @@ begins bus old = record {
   over = λ _ k d none. absurd (omega arith);
 }
 
-module _ (bus : SharedBus) (old now : List Member) (count : ℕ) (left : Bool) (r : IsRound bus old now count left) (below : count < length now) where
+module _ (bus : TurnBus) (old now : List Member) (count : ℕ) (left : Bool) (r : IsRound bus old now count left) (below : count < length now) where
   -- the next member is as it was
   pub next_of : (e : Member) → AreMembers bus old → IsMember bus (get_or now count e)
   next_of e of = subst (IsMember bus) (sym (r.others count e (omega arith))) (of count e (subst (λ n. count < n) r.all below))
@@ -43,23 +43,23 @@ module _ (bus : SharedBus) (old now : List Member) (count : ℕ) (left : Bool) (
 same_seat : (u v w : View) → SameSeat u v → SameSeat v w → SameSeat u w
 same_seat u v w a b = record { job = b.job ∙ a.job; keeps = b.keeps ∙ a.keeps; number = b.number ∙ a.number; made = b.made ∙ a.made; joined = b.joined ∙ a.joined }
 
-pub all_next : (bus : SharedBus) (old now new : List Member) → GoOn bus old now → GoOn bus now new → GoOn bus old new
+pub all_next : (bus : TurnBus) (old now new : List Member) → GoOn bus old now → GoOn bus now new → GoOn bus old new
 all_next bus old now new a b = record {
   all = b.all ∙ a.all;
   each = λ k d below. let m = a.each k d below in let n = b.each k d (subst (λ m. k < m) (sym a.all) below) in
       record { is = n.is; seat = same_seat _ _ _ m.seat n.seat; keeps = n.keeps ∙ m.keeps };
 }
 
-pub all_of : (bus : SharedBus) (old new : List Member) → GoOn bus old new → AreMembers bus new
+pub all_of : (bus : TurnBus) (old new : List Member) → GoOn bus old new → AreMembers bus new
 all_of bus old new a k d below = (a.each k d (subst (λ m. k < m) a.all below)).is
 
-pub same_all : (bus : SharedBus) (ms : List Member) → AreMembers bus ms → GoOn bus ms ms
+pub same_all : (bus : TurnBus) (ms : List Member) → AreMembers bus ms → GoOn bus ms ms
 same_all bus ms of = record {
   all = refl;
   each = λ k d below. record { is = of k d below; seat = record { job = refl; keeps = refl; number = refl; made = refl; joined = refl }; keeps = refl };
 }
 
-pub ends : (bus : SharedBus) (old now : List Member) (count : ℕ) (left : Bool) → IsRound bus old now count left → length now ≤ count → GoOn bus old now × (left ≡ false → AreOver now)
+pub ends : (bus : TurnBus) (old now : List Member) (count : ℕ) (left : Bool) → IsRound bus old now count left → length now ≤ count → GoOn bus old now × (left ≡ false → AreOver now)
 ends bus old now count left r all = let n = r.all in (
   record { all = r.all; each = λ k d below. r.tried k d (omega arith) },
   λ over k d below. r.over over k d (omega arith),

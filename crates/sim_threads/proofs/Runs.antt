@@ -8,11 +8,11 @@ use Rattle.core_unit.specs.declared.state.State.{State}
 use Rattle.core_unit.specs.Opened.{AreOpened}
 use Rattle.core_unit.specs.Parts.{IsPart, IsPartAfter}
 use Rattle.sim_serial.specs.Cores.{AreParts, CoresKeep}
-use Rattle.bus_lock.specs.declared.seat.BusSeat.{BusSeat}
-use Rattle.bus_lock.specs.declared.seat.SharedBus.{SharedBus}
-use Rattle.bus_lock.specs.declared.view.View.{View}
-use Rattle.bus_lock.specs.Answers.{IsIn, SameSeat}
-use Rattle.bus_lock.specs.Seats.{IsSeat, AreSeats, view_of}
+use Rattle.turn_bus.specs.declared.seat.TurnSeat.{TurnSeat}
+use Rattle.turn_bus.specs.declared.seat.TurnBus.{TurnBus}
+use Rattle.turn_bus.specs.declared.view.View.{View}
+use Rattle.turn_bus.specs.Answers.{IsIn, SameSeat}
+use Rattle.turn_bus.specs.Seats.{IsSeat, AreSeats, view_of}
 use Rattle.core_worker.specs.declared.member.Member.{Member}
 use Rattle.core_worker.specs.Members.{IsMember, GoesOn, IsOver, AreMembers, GoOn, AreOver}
 use Rattle.core_worker.specs.Zips.{cores_of, seats_of}
@@ -20,7 +20,7 @@ use Rattle.core_worker.specs.Zips.{cores_of, seats_of}
 core_at : (ms : List Member) (k : ℕ) (d : Member) (e : State) → k < length ms → get_or (cores_of ms) k e ≡ (get_or ms k d).core
 core_at ms k d e below = get_or-map (λ m. m.core) ms k d e below
 
-seat_at : (ms : List Member) (k : ℕ) (d : Member) (e : BusSeat) → k < length ms → get_or (seats_of ms) k e ≡ (get_or ms k d).seat
+seat_at : (ms : List Member) (k : ℕ) (d : Member) (e : TurnSeat) → k < length ms → get_or (seats_of ms) k e ≡ (get_or ms k d).seat
 seat_at ms k d e below = get_or-map (λ m. m.seat) ms k d e below
 
 -- a list of members that was lent whole is the list after
@@ -32,15 +32,15 @@ some_member [] k below = absurd (omega arith)
 some_member (m ∷ ms) k below = m
 
 -- a member of a job, at a count, whose core keeps its accesses or not
-pub record IsOf (bus : SharedBus) (job : JobValue) (keep : Keep) (count k : ℕ) (m : Member) : Type 0 where
+pub record IsOf (bus : TurnBus) (job : JobValue) (keep : Keep) (count k : ℕ) (m : Member) : Type 0 where
   pub seat : IsSeat bus job keep.trace count job.shape.cores k m.seat
   pub core : IsIn job count k m.core
   pub keeps : m.core.keeps ≡ keep.touches
 
-module _ (bus : SharedBus) (job : JobValue) (keep : Keep) (ms : List Member) where
+module _ (bus : TurnBus) (job : JobValue) (keep : Keep) (ms : List Member) where
   -- ---- before the first slot
 
-  module _ (cores : List State) (seats : List BusSeat) (is_cores : cores_of ms ≡ cores) (is_seats : seats_of ms ≡ seats) (opened : AreOpened job keep cores) (are : AreSeats bus job keep.trace 0 seats) where
+  module _ (cores : List State) (seats : List TurnSeat) (is_cores : cores_of ms ≡ cores) (is_seats : seats_of ms ≡ seats) (opened : AreOpened job keep cores) (are : AreSeats bus job keep.trace 0 seats) where
     pub all : length ms ≡ job.shape.cores
     all = let c = opened.all in let e = ap length is_cores in let l : length (cores_of ms) ≡ length ms = grind (arith, common_steps) in omega arith
 
@@ -101,7 +101,7 @@ module _ (bus : SharedBus) (job : JobValue) (keep : Keep) (ms : List Member) whe
           let some = opened.within.shape.some_cores in
           let h : 0 < length ms = omega arith in
           (on.each 0 d h).seat.joined
-          ∙ subst (λ (b : BusSeat). (view_of b).joined ≡ []) (ap (λ l. get_or l 0 d.seat) (sym is_seats) ∙ seat_at ms 0 d d.seat h) (are.seated.none_joined d.seat)
+          ∙ subst (λ (b : TurnSeat). (view_of b).joined ≡ []) (ap (λ l. get_or l 0 d.seat) (sym is_seats) ∙ seat_at ms 0 d d.seat h) (are.seated.none_joined d.seat)
 
       sized : length ns ≡ job.shape.cores
       sized = on.all ∙ all
@@ -132,6 +132,6 @@ module _ (bus : SharedBus) (job : JobValue) (keep : Keep) (ms : List Member) whe
           order = λ k e below. let n = sized in let c = count_seats in let h : k < length ns = omega arith in let d = some_member ns k h in
               subst (IsSeat bus job keep.trace job.shape.slots job.shape.cores k) (sym (seat_at ns k d e h)) (each k d h).seat;
           none_joined = λ e. let n = sized in let some = opened.within.shape.some_cores in let h : 0 < length ns = omega arith in let d = some_member ns 0 h in
-              subst (λ (b : BusSeat). (view_of b).joined ≡ []) (sym (seat_at ns 0 d e h)) (none_joined d);
+              subst (λ (b : TurnSeat). (view_of b).joined ≡ []) (sym (seat_at ns 0 d e h)) (none_joined d);
         };
       }

@@ -6,7 +6,6 @@ ghost use Rattle.sim_serial.specs.Sims.{IsSimOf, Keeps};
 ghost use Rattle.core_worker.specs.Members.{AreMembers, AreOver, GoOn};
 
 use bus_core::Bus;
-use bus_lock::SharedBus;
 use core_unit::open_cores;
 use core_worker::{Member, members_of, parted, work};
 use pmsi_model::{Job, Keep, NoMemory};
@@ -16,11 +15,12 @@ use std::alloc::Global;
 use std::sync::Wait;
 use std::thread;
 use std::thread::Threads;
+use turn_bus::TurnBus;
 
 /// Works groups of so many members at the same time, the last perhaps smaller.
 fn work_groups<R: Threads + Wait + Sync, G: Gate + Sync>(
     rt: &R,
-    bus: &SharedBus,
+    bus: &TurnBus,
     members: &mut [Member],
     size: usize,
     gate: &G,
@@ -61,7 +61,7 @@ pub fn run_threads<R: Threads + Wait + Sync, G: Gate + Sync>(
     let size = group_size(job.shape().cores, workers);
     let cores = open_cores(alloc, job, keep)?;
     let bus = Bus::open(alloc, job, keep)?;
-    let (shared, seats) = SharedBus::open(alloc, bus, job)?;
+    let (shared, seats) = TurnBus::open(alloc, bus, job)?;
     let count = cores.len();
     let mut members = members_of(alloc, cores, seats)?;
     let mut cores = Vec::with_capacity(alloc, count)?;

@@ -4,5 +4,3 @@ pub mod TurnLooks
 pub mod TurnActs
 pub mod SeatLists
 pub mod Seatings
-pub mod Meetings
-pub mod Exports

@@ -1,5 +1,5 @@
 -- Loads keep the rule, and tell what they are to tell: a look at the turn, a note of a record, and the owner's taking of the bus.
-use Rattle.std.proofs.Common.{◌≡◌, ◌≢◌, ℕ, ◌+◌, ◌<◌, ◌≤◌, List, [], ◌∷◌, Bool, true, false, length, set, slice_index, Some, None, refl, sym, ap, ◌∙◌, subst, arith, length-set}
+use Rattle.std.proofs.Common.{◌≡◌, ℕ, ◌+◌, ◌<◌, ◌≤◌, List, [], ◌∷◌, Bool, true, false, length, set, slice_index, Some, None, refl, sym, ap, ◌∙◌, subst, arith, length-set}
 use mathlib.Core.Option.{some, none}
 use lib.ListN.{get_elem?}
 use lib.Seq.{set-get_or}

@@ -1,5 +1,5 @@
 use Rattle.std.proofs.Common.{rules, arith, ◌≡◌, Bool, sym, ap, ◌∙◌, subst}
-use Rattle.bus_lock.specs.Seats.{AreSeats}
+use Rattle.turn_bus.specs.Seats.{AreSeats}
 use Rattle.sim_serial.specs.Cores.{AreParts, AreWith, CoresKeep}
 use Rattle.sim_serial.specs.Sims.{Keeps, sim_with}
 use Rattle.core_worker.specs.Zips.{cores_of, seats_of}

@@ -1,4 +1,4 @@
-use Rattle.std.proofs.Common.{rules, ◌<◌, subst, ap, sym, ◌∙◌}
+use Rattle.std.proofs.Common.{rules, ap, ◌∙◌}
 use Rattle.pmsi_model.specs.Slots.{SlotPlan}
 use Rattle.turn_bus.specs.Rule.{word_of_slot}
 use Rattle.turn_bus.proofs.TurnLooks.{looks, notes, passed_on}

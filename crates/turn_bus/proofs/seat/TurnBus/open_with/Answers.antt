@@ -1,6 +1,6 @@
 use Rattle.std.proofs.Common.{rules, ◌≡◌, ℕ, ◌+◌, ◌++◌, [], ◌∷◌, set, subst, sym, ◌∙◌}
 use Rattle.turn_bus.specs.Seats.{Seated}
-use Rattle.turn_bus.proofs.Seatings.{can_open, own_root, seated_more}
+use Rattle.turn_bus.proofs.Seatings.{seated_more}
 use Rattle.turn_bus.proofs.seat.TurnBus.open_with.Goals as goal
 
 pub loop-preserved : goal.loop-preserved
