@@ -32,6 +32,10 @@ impl Text {
     #[inline(always)]
     fn number(&mut self, number: impl Into<u64>) -> &mut Text {
         let mut rest: u64 = number.into();
+        if rest < 10 {
+            self.0.push(DIGITS[rest as usize]);
+            return self;
+        }
         let mut digits = [0; 2 * MOST_DIGITS];
         let mut first = MOST_DIGITS;
         while rest >= 10 {
@@ -39,9 +43,9 @@ impl Text {
             [digits[first], digits[first + 1]] = PAIRS[(rest % 100) as usize];
             rest /= 100;
         }
-        if rest > 0 || first == MOST_DIGITS {
+        if rest > 0 {
             first -= 1;
-            digits[first] = b'0' + rest as u8;
+            digits[first] = DIGITS[rest as usize];
         }
         let end = self.0.len() + MOST_DIGITS - first;
         self.0.extend_from_slice(digits[first..].first_chunk::<MOST_DIGITS>().unwrap_or(&[0; MOST_DIGITS]));
