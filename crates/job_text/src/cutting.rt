@@ -8,7 +8,7 @@ ghost use Rattle.job_text.specs.Cutting.{is_blank, is_hash, fields_between};
 ghost use Rattle.job_text.specs.Sayings.{only_field};
 
 /// Takes the first line off a text that isn't at its end: gives the line and what stands after it.
-pub(crate) fn next_line(text: &str) -> Option<(&str, &str)>
+pub fn next_line(text: &str) -> Option<(&str, &str)>
     ensures line { IfSome result (λ x. lines text.now ≡ x.0.now ∷ lines x.1.now) }
     ensures end { IfNone result (lines text.now ≡ []) }
     ensures shorter { IfSome result (λ x. length x.1.now < length text.now) }
@@ -33,7 +33,7 @@ fn without_return(line: &str) -> &str
 }
 
 /// The line up to its comment.
-pub(crate) fn code_of(line: &str) -> &str
+pub fn code_of(line: &str) -> &str
     ensures { result.now ≡ before_first is_hash line.now }
 {
     match line.split_once('#') {
@@ -43,7 +43,7 @@ pub(crate) fn code_of(line: &str) -> &str
 }
 
 /// Takes the first field off: gives the field and what stands after it.
-pub(crate) fn next_field(text: &str) -> Option<(&str, &str)>
+pub fn next_field(text: &str) -> Option<(&str, &str)>
     ensures field { IfSome result (λ x. fields_between text.now ≡ x.0.now ∷ fields_between x.1.now) }
     ensures end { IfNone result (fields_between text.now ≡ []) }
     ensures shorter { IfSome result (λ x. length x.1.now < length text.now) }
@@ -76,7 +76,7 @@ fn is_blank(byte: u8) -> bool
 }
 
 /// The one field of a text, where it has one and no other.
-pub(crate) fn only_field(text: &str) -> Option<&str>
+pub fn only_field(text: &str) -> Option<&str>
     ensures { option_map (λ field. field.now) result ≡ only_field (fields_between text.now) }
 {
     let (field, rest) = next_field(text)?;

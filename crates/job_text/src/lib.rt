@@ -24,6 +24,7 @@ mod saying;
 #[cfg(test)]
 mod tests;
 
+pub use cutting::{code_of, next_field, next_line, only_field};
 pub use generating::generate;
 pub use job_fault::{HeadWord, JobFault, LineCause};
 pub use joining::join_job;
