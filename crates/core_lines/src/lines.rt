@@ -1,30 +1,15 @@
-//! The head of a listing, and the three lines of a core.
+//! The three lines of a core.
 ghost use Rattle.std.specs.Prelude.{◌≡◌, ℕ, ◌++◌, codes, slice_get, OnOk};
 ghost use Rattle.std.specs.List.{flat_map};
 ghost use Rattle.std.specs.Option.{option_to_list};
-ghost use Rattle.pmsi_model.specs.Lines.{shape_line, halt_text, status_text, core_line, regs_line, mode_text, held_text, held_line};
+ghost use Rattle.pmsi_model.specs.Lines.{halt_text, status_text, core_line, regs_line, mode_text, held_text, held_line};
 ghost use Rattle.cache_array.specs.Cache.{held_of};
-ghost use Rattle.listing.specs.Regs.{reg_text};
+ghost use Rattle.core_lines.specs.Regs.{reg_text};
 
 use cache_array::CacheArray;
-use pmsi_model::{Geometry, Halt, Mode, Status};
+use pmsi_model::{Halt, Mode, Status};
 use std::alloc::AllocError;
 use text_out::{push_field, push_hex_field, push_newline, push_text};
-
-/// Appends the line of a machine's shape.
-#[tactic(auto, unfolding(pmsi_model::specs::Lines::shape_line))]
-pub fn push_shape_line(out: &mut Vec<u8>, shape: &Geometry) -> Result<(), AllocError>
-    ensures { OnOk result (out.new.items ≡ out.old.items ++ shape_line shape.now) }
-{
-    push_field(out, "cores ", u64::from(shape.cores))?;
-    push_field(out, " quantum ", u64::from(shape.quantum))?;
-    push_field(out, " line ", u64::from(shape.line_words))?;
-    push_field(out, " sets ", u64::from(shape.sets))?;
-    push_field(out, " ways ", u64::from(shape.ways))?;
-    push_field(out, " memory ", u64::from(shape.memory))?;
-    push_field(out, " slots ", u64::from(shape.slots))?;
-    push_newline(out)
-}
 
 fn push_halt(out: &mut Vec<u8>, halt: Halt) -> Result<(), AllocError>
     ensures { OnOk result (out.new.items ≡ out.old.items ++ halt_text halt) }

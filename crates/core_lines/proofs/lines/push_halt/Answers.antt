@@ -1,6 +1,6 @@
 use Rattle.std.proofs.Common.{◌≡◌, ℕ, List, OnOk, codes, subst, append_assoc}
 use Rattle.pmsi_model.specs.Lines.{hex_word}
-use Rattle.listing.proofs.cores.push_halt.Goals as goal
+use Rattle.core_lines.proofs.lines.push_halt.Goals as goal
 
 pub returns-in-Misaligned : goal.returns-in-Misaligned
 returns-in-Misaligned c =

@@ -1,7 +1,7 @@
 use Rattle.std.proofs.Common.{◌≡◌, ◌≤◌, ℕ, List, length, OnOk, subst}
 use Rattle.cache_array.specs.Cache.{held_of}
-use Rattle.listing.proofs.Parts.{held_further, held_whole}
-use Rattle.listing.proofs.cores.push_held_line.Goals as goal
+use Rattle.core_lines.proofs.Parts.{held_further, held_whole}
+use Rattle.core_lines.proofs.lines.push_held_line.Goals as goal
 
 pub loop-place-preserved : goal.loop-place-preserved
 loop-place-preserved c = held_further _ _ _ (held_of c.args.cache.now.lines) c.loop-place.place c.loop-place.invariant c.in_ok-push_held_at.ensures
