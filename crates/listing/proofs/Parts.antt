@@ -1,46 +1,17 @@
 -- Sections that follow one another.
-use Rattle.std.proofs.Common.{◌≡◌, ℕ, zero, suc, ◌+◌, ◌/◌, ◌≤◌, List, [], ◌∷◌, ◌++◌, length, take, codes, refl, sym, ap, ◌∙◌, append_assoc, add-one}
-use Rattle.std.specs.List.{flat_map, slice_get}
-use Rattle.std.specs.Option.{option_to_list}
-use Rattle.std.proofs.lemmas.List.{take_all}
-use Rattle.std.proofs.lemmas.List.Concat.{flat_map-append}
+use Rattle.std.proofs.Common.{◌≡◌, ℕ, ◌+◌, ◌/◌, List, ◌++◌, codes, refl, sym, ap, ◌∙◌, add-one}
+use Rattle.std.specs.List.{flat_map}
 use Rattle.pmsi_model.specs.declared.job.Geometry.{Geometry}
 use Rattle.pmsi_model.specs.declared.Keep.{Keep}
-use Rattle.pmsi_model.specs.declared.Mode.{Mode}
 use Rattle.pmsi_model.specs.declared.Row.{Row}
 use Rattle.pmsi_model.specs.Job.{JobValue}
 use Rattle.pmsi_model.specs.Slots.{SlotPlan, bound_of, plan_of}
-use Rattle.pmsi_model.specs.Lines.{held_text, held_line, shape_line, row_line, open_row_line, bound_line}
+use Rattle.pmsi_model.specs.Lines.{shape_line, row_line, open_row_line, bound_line}
 use Rattle.pmsi_model.specs.Listing.{core_text, core_texts, memory_texts, waits_texts, trace_text, touches_text, listing_of, summary_of}
 use Rattle.pmsi_model.specs.Rows.{rows_of, open_rows_in}
 use Rattle.pmsi_model.specs.Machine.{CoreState, Machine}
 use Rattle.pmsi_model.specs.Run.{machine_at}
 use Rattle.text_out.proofs.Grown.{grown}
-
--- ---- held lines
-
-next_held : (held : List (ℕ × Mode)) (k : ℕ) → take (suc k) held ≡ take k held ++ option_to_list (slice_get held k)
-next_held [] zero = refl
-next_held [] (suc k) = refl
-next_held (h ∷ held) zero = refl
-next_held (h ∷ held) (suc k) = ap (λ (hs : List (ℕ × Mode)). h ∷ hs) (next_held held k)
-
--- the held lines before place k, and then the one there
-pub held_further : (start before after : List ℕ) (held : List (ℕ × Mode)) (k : ℕ) → before ≡ start ++ flat_map held_text (take k held) → after ≡ before ++ flat_map held_text (option_to_list (slice_get held k)) →
-    after ≡ start ++ flat_map held_text (take (k + 1) held)
-held_further start before after held k h g =
-    let more : List (ℕ × Mode) = option_to_list (slice_get held k) in
-    let next : take (k + 1) held ≡ take k held ++ more = rw add-one (next_held held k) in
-    g ∙ ap (λ (text : List ℕ). text ++ flat_map held_text more) h ∙ append_assoc start (flat_map held_text (take k held)) (flat_map held_text more)
-    ∙ ap (λ (text : List ℕ). start ++ text) (sym (flat_map-append held_text (take k held) more) ∙ ap (λ (hs : List (ℕ × Mode)). flat_map held_text hs) (sym next))
-
--- all of them
-pub held_whole : (old start before : List ℕ) (held : List (ℕ × Mode)) (k : ℕ) → length held ≤ k → start ≡ old ++ codes "held" → before ≡ start ++ flat_map held_text (take k held) → before ++ codes "\n" ≡ old ++ held_line held
-unfolding held_line
-held_whole old start before held k all h g =
-    let texts : List ℕ = flat_map held_text held in
-    let whole : before ≡ start ++ texts = g ∙ ap (λ (hs : List (ℕ × Mode)). start ++ flat_map held_text hs) (take_all k held all) in
-    grown old (codes "held" ++ texts) before (before ++ codes "\n") (codes "\n") (grown old (codes "held") start before texts h whole) refl
 
 -- ---- the listing
 

@@ -4,17 +4,8 @@ use Rattle.std.proofs.lemmas.List.{take_more, length-take-le}
 use Rattle.pmsi_model.specs.declared.Action.{Action}
 use Rattle.pmsi_model.specs.declared.Touch.{Touch}
 use Rattle.pmsi_model.specs.Slots.{SlotPlan, owner_of_slot}
-use Rattle.pmsi_model.specs.Lines.{reg_texts, hex_word, hex_bytes, memory_line, kind_text, touch_line, action_line, action_lines}
-use Rattle.listing.specs.Regs.{reg_text}
-use Rattle.text_out.proofs.Grown.{grown, IsByPlaces, further}
-
-by_numbers : IsByPlaces reg_texts reg_text
-by_numbers = record { none = λ r. refl; more = λ r value values. refl }
-
--- the texts of the registers below k, and then that of register k
-pub regs_further : (start before after regs : List ℕ) (k : ℕ) → k < length regs → before ≡ start ++ reg_texts 0 (take k regs) → after ≡ before ++ reg_text k (get_or regs k 0) →
-    after ≡ start ++ reg_texts 0 (take (k + 1) regs)
-regs_further = further reg_texts reg_text by_numbers
+use Rattle.pmsi_model.specs.Lines.{hex_word, hex_bytes, memory_line, kind_text, touch_line, action_line, action_lines}
+use Rattle.text_out.proofs.Grown.{grown}
 
 -- the five parts of a line of memory
 five : (old a b c d e one two three : List ℕ) → one ≡ old ++ a ++ b → two ≡ one ++ c → three ≡ two ++ d → three ++ e ≡ old ++ (a ++ b ++ c ++ d ++ e)

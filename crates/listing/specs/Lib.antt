@@ -1,4 +1,3 @@
-pub mod Regs
 pub mod Waits
 pub mod Rests
 pub mod Pieces

@@ -2,7 +2,7 @@
 //! The texts are those that `pmsi_model` defines. A call fails where memory runs out, and nothing else makes it fail.
 #![tactic(auto)]
 
-mod cores;
+mod head;
 mod histories;
 mod memory;
 mod merge;
@@ -12,7 +12,7 @@ mod sections;
 mod waits;
 mod whole;
 
-pub use cores::{push_core_line, push_held_line, push_regs_line, push_shape_line};
+pub use head::push_shape_line;
 pub use waits::{push_bound_line, push_waits_line};
 pub use whole::{listing, summary};
 

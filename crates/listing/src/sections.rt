@@ -11,11 +11,11 @@ ghost use Rattle.pmsi_model.specs.Rows.{rows_of, open_row_of, open_rows_in, opti
 ghost use Rattle.sim_serial.specs.Sims.{IsSimOf, shape_of};
 ghost use Rattle.listing.specs.Asked.{KeepsAsked};
 
-use crate::cores::{push_core_line, push_held_line, push_regs_line};
 use crate::histories::push_action_lines;
 use crate::memory::push_sixteen;
 use crate::requests::push_open_row_line;
 use crate::waits::push_waits_line;
+use core_lines::{push_core_line, push_held_line, push_regs_line};
 use core_unit::Core;
 use pmsi_model::Keep;
 use sim_serial::Sim;

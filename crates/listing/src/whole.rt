@@ -5,7 +5,7 @@ ghost use Rattle.pmsi_model.specs.Listing.{listing_of, summary_of};
 ghost use Rattle.sim_serial.specs.Sims.{IsSimOf, shape_of, slot_of};
 ghost use Rattle.listing.specs.Asked.{KeepsAsked};
 
-use crate::cores::push_shape_line;
+use crate::head::push_shape_line;
 use crate::merge::{push_rows, push_touches};
 use crate::sections::{push_cores, push_memory, push_open_rows, push_trace, push_waits_lines};
 use crate::waits::push_bound_line;

@@ -1,5 +1,0 @@
-use Rattle.listing.proofs.Texts.{regs_further}
-use Rattle.listing.proofs.cores.push_regs_line.Goals as goal
-
-pub loop-number-preserved : goal.loop-number-preserved
-loop-number-preserved c = regs_further _ _ _ c.args.regs.now c.loop-number.number c.loop-number-test.true c.loop-number.invariant c.in_ok-push_reg.ensures
