@@ -4,8 +4,8 @@ use Rattle.std.specs.List.{find, range_with_len}
 use Rattle.std.specs.Option.{unwrap_or}
 use Rattle.pmsi_model.specs.Job.{JobValue}
 use Rattle.pmsi_model.specs.Run.{machine_at}
-use Rattle.debugger.specs.declared.command.Breakpoint.{Breakpoint}
-use Rattle.debugger.specs.Output.{go_end, holds_any}
+use Rattle.script_text.specs.declared.command.Breakpoint.{Breakpoint}
+use Rattle.script_text.specs.Output.{go_end, holds_any}
 
 module _ (job : JobValue) (breaks : List Breakpoint) (slot : ℕ) where
   holds : ℕ → Bool

@@ -1,7 +1,7 @@
 -- The parts of lines.
 use Rattle.std.proofs.Common.{◌≡◌, ℕ, List, ◌++◌, codes, append_assoc, arith}
 use Rattle.pmsi_model.specs.Lines.{hex_word}
-use Rattle.debugger.specs.Output.{word_line}
+use Rattle.script_text.specs.Output.{word_line}
 
 five : (old a b c d e one two : List ℕ) → one ≡ old ++ a ++ b → two ≡ one ++ c ++ d → two ++ e ≡ old ++ (a ++ b ++ c ++ d ++ e)
 five old a b c d e one two f g = grind (arith, append_assoc)

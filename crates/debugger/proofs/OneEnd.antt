@@ -2,11 +2,11 @@
 use Rattle.std.proofs.Common.{◌≡◌, ◌≢◌, ◌⊎◌, inl, inr, ℕ, List, Result, Ok, Err, refl, sym, ap, ◌∙◌}
 use Rattle.pmsi_model.specs.declared.job.Geometry.{Geometry}
 use Rattle.pmsi_model.specs.Job.{JobValue}
-use Rattle.debugger.specs.declared.command.Command.{Command}
-use Rattle.debugger.specs.declared.fault.ScriptFault.{ScriptFault}
-use Rattle.debugger.specs.declared.fault.ScriptFault.TheVariants.{NotText, Line, NoMemory}
-use Rattle.debugger.specs.Output.{HasScriptFault, IsOutput, debugged, output_if, output_of}
-use Rattle.debugger.specs.Script.{script_of}
+use Rattle.script_text.specs.declared.command.Command.{Command}
+use Rattle.script_text.specs.declared.fault.ScriptFault.{ScriptFault}
+use Rattle.script_text.specs.declared.fault.ScriptFault.TheVariants.{NotText, Line, NoMemory}
+use Rattle.script_text.specs.Output.{HasScriptFault, IsOutput, debugged, output_if, output_of}
+use Rattle.script_text.specs.Script.{script_of}
 
 abbrev Is : {T : Type 0} → Result T ScriptFault → Result T ScriptFault → Type 0
 Is a b = a ≡ b

@@ -2,9 +2,9 @@
 use Rattle.std.proofs.Common.{◌≡◌, ◌∙◌, ℕ, ◌+◌, ◌<◌, ◌≤◌, List, [], ◌∷◌, ◌++◌, length, drop, get_or, refl, ap, sym, append_assoc, append-nil}
 use Rattle.std.proofs.lemmas.List.{drop_more, drop_all}
 use Rattle.pmsi_model.specs.Job.{JobValue}
-use Rattle.debugger.specs.declared.command.Command.{Command}
+use Rattle.script_text.specs.declared.command.Command.{Command}
 use Rattle.debugger.specs.declared.session.Session.{Session}
-use Rattle.debugger.specs.Output.{Place, after, output_from, printed}
+use Rattle.script_text.specs.Output.{Place, after, output_from, printed}
 use Rattle.debugger.specs.Sessions.{IsAt}
 
 -- a session has come so far from a place: what is still to be printed follows what was

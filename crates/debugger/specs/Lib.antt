@@ -1,5 +1,1 @@
-pub mod Script
-pub mod Output
 pub mod Sessions
-pub mod Reads
-pub mod Examples

@@ -4,7 +4,7 @@ use Rattle.std.specs.List.{All}
 use Rattle.pmsi_model.specs.Job.{JobValue}
 use Rattle.sim_serial.specs.Sims.{IsSimOf, shape_of}
 use Rattle.debugger.specs.declared.session.Session.{Session}
-use Rattle.debugger.specs.Output.{Place}
+use Rattle.script_text.specs.Output.{Place}
 
 -- it is that of a job where a script stands
 pub record IsAt (job : JobValue) (place : Place) (session : Session) : Type 0 where

@@ -2,20 +2,11 @@
 //! before the machine takes its first slot; the first fault, from the top, is told in place of a text.
 #![tactic(auto)]
 
-mod command;
-pub mod examples;
-mod fault;
-mod limits;
-mod line;
 mod moves;
-mod numbers;
 mod printing;
 mod running;
-mod script;
 mod session;
 #[cfg(test)]
 mod tests;
 
-pub use command::{Breakpoint, Command};
-pub use fault::{ScriptCause, ScriptFault};
-pub use running::debug;
+pub use running::{debug, run_script};

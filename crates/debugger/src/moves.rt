@@ -5,11 +5,11 @@ ghost use Rattle.std.specs.List.{All};
 ghost use Rattle.pmsi_model.specs.Job.{JobValue};
 ghost use Rattle.pmsi_model.specs.Run.{machine_at};
 ghost use Rattle.sim_serial.specs.Sims.{IsSimOf, shape_of};
-ghost use Rattle.debugger.specs.declared.limits.TheConstants.{MAX_STEP};
-ghost use Rattle.debugger.specs.Output.{go_end, holds, holds_any, is_running};
+ghost use Rattle.script_text.specs.declared.limits.TheConstants.{MAX_STEP};
+ghost use Rattle.script_text.specs.Output.{go_end, holds, holds_any, is_running};
 
-use crate::command::Breakpoint;
 use pmsi_model::Status;
+use script_text::Breakpoint;
 use sim_serial::Sim;
 
 /// Takes so many slots, or those that are left.

@@ -1,7 +1,7 @@
 //! The lines that commands print.
 
 ghost use Rattle.std.specs.Prelude.{◌≡◌, ◌++◌, OnOk};
-ghost use Rattle.debugger.specs.Output.{left_line, left_text, slot_line, state_line, state_text, word_line};
+ghost use Rattle.script_text.specs.Output.{left_line, left_text, slot_line, state_line, state_text, word_line};
 
 use pmsi_model::State;
 use std::alloc::AllocError;

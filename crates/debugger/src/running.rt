@@ -1,15 +1,15 @@
 //! Runs a script over a job's machine.
 
-ghost use Rattle.std.specs.Prelude.{◌≡◌, ◌≢◌, ◌⊎◌, ◌≤◌, List, ℕ, length, Ok, Err, IfOk, IfErr};
+ghost use Rattle.std.specs.Prelude.{◌≡◌, ◌≢◌, ◌⊎◌, ◌≤◌, List, ℕ, length, true, Ok, Err, IfOk, IfErr};
+ghost use Rattle.std.specs.List.{All};
 ghost use Rattle.pmsi_model.specs.declared.limits.TheConstants.{MAX_FILE_BYTES};
-ghost use Rattle.debugger.specs.declared.fault.ScriptFault.{ScriptFault};
-ghost use Rattle.debugger.specs.Output.{HasScriptFault, IsOutput};
+ghost use Rattle.script_text.specs.declared.fault.ScriptFault.{ScriptFault};
+ghost use Rattle.script_text.specs.Output.{HasScriptFault, IsOutput, output_of};
+ghost use Rattle.script_text.specs.Script.{is_in_range};
 
-use crate::command::Command;
-use crate::fault::ScriptFault;
-use crate::script::read_script;
 use crate::session::Session;
-use pmsi_model::Job;
+use pmsi_model::{Job, NoMemory};
+use script_text::{Command, ScriptFault, read_script};
 use std::alloc::Global;
 
 /// Runs a script over the machine of a job: the text that its commands print, or the first thing that is wrong with the script,
@@ -39,9 +39,17 @@ fn output_of(alloc: Global, job: &Job, script: &[u8]) -> Result<Vec<u8>, ScriptF
         Ok(commands) => commands,
         Err(fault) => return Err(fault),
     };
-    let mut session = Session::open(alloc, job, breaks_in(commands.as_slice()))?;
+    Ok(run_script(alloc, job, commands.as_slice())?)
+}
+
+/// The text that commands print, of the machine of a job from its first slot on.
+pub fn run_script(alloc: Global, job: &Job, commands: &[Command]) -> Result<Vec<u8>, NoMemory>
+    requires { All (λ command. is_in_range job.now.shape command ≡ true) commands.now }
+    ensures { IfOk result (λ text. text.items ≡ output_of job.now commands.now) }
+{
+    let mut session = Session::open(alloc, job, breaks_in(commands))?;
     let mut out = Vec::new(alloc);
-    session.run(&mut out, commands.as_slice())?;
+    session.run(&mut out, commands)?;
     Ok(out)
 }
 

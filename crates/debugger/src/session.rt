@@ -6,17 +6,17 @@ ghost use Rattle.pmsi_model.specs.Job.{JobValue};
 ghost use Rattle.pmsi_model.specs.Run.{machine_at};
 ghost use Rattle.core_unit.specs.State.{core_of};
 ghost use Rattle.sim_serial.specs.Sims.{IsSimOf, shape_of};
-ghost use Rattle.debugger.specs.Output.{Place, after, output_from, printed, regs_lines};
-ghost use Rattle.debugger.specs.Script.{is_in_range};
+ghost use Rattle.script_text.specs.Output.{Place, after, output_from, printed, regs_lines};
+ghost use Rattle.script_text.specs.Script.{is_in_range};
 ghost use Rattle.debugger.specs.Sessions.{HasCores, IsAt};
 
-use crate::command::{Breakpoint, Command};
 use crate::moves::{go, step};
 use crate::printing::{push_left_line, push_slot_line, push_state_line, push_word_line};
 use core_lines::{push_core_line, push_held_line, push_regs_line};
 use core_unit::Core;
 use latency::remaining;
 use pmsi_model::{Job, Keep, NoMemory};
+use script_text::{Breakpoint, Command};
 use sim_serial::Sim;
 use std::alloc::{AllocError, Global};
 
@@ -73,7 +73,7 @@ impl Session {
     }
 
     /// Moves the machine, or adds a break.
-    #[tactic(auto, unfolding(crate::specs::Output::after))]
+    #[tactic(auto, unfolding(script_text::specs::Output::after))]
     fn obey(&mut self, command: Command) -> Result<(), AllocError>
         requires cores { HasCores self.old }
         requires range { is_in_range (shape_of self.old.sim) command ≡ true }
@@ -99,7 +99,7 @@ impl Session {
     }
 
     /// Appends what a command prints.
-    #[tactic(auto, unfolding(crate::specs::Output::printed))]
+    #[tactic(auto, unfolding(script_text::specs::Output::printed))]
     fn print(&self, out: &mut Vec<u8>, command: Command) -> Result<(), AllocError>
         requires range { is_in_range (shape_of self.now.sim) command ≡ true }
         ensures { (job : JobValue) (slot : ℕ) → IsSimOf job slot self.now.sim → OnOk result (out.new.items ≡ out.old.items ++ printed job slot command) }

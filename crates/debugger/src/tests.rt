@@ -6,6 +6,7 @@ ghost use Rattle.pmsi_model.specs.declared.limits.TheConstants.{MAX_TEXT_WORDS};
 use super::*;
 use pmsi_model::limits::MAX_FILE_BYTES;
 use pmsi_model::{Bytes, Geometry, Job, WordLists, Words};
+use script_text::{ScriptCause, ScriptFault};
 use std::alloc::{AllocError, Global};
 use std::process::Abort;
 use std::test::Fail;

@@ -1,7 +1,7 @@
 use Rattle.std.proofs.Common.{◌≡◌, ℕ}
 use Rattle.pmsi_model.specs.Job.{JobValue}
 use Rattle.sim_serial.specs.Sims.{IsSimOf, slot_of, shape_of}
-use Rattle.debugger.specs.Output.{go_end}
+use Rattle.script_text.specs.Output.{go_end}
 use Rattle.debugger.proofs.moves.go.Given as goal
 
 abbrev pub invariant-loop-slot : goal.invariant-loop-slot

@@ -1,7 +1,7 @@
 use Rattle.std.proofs.Common.{◌≡◌, ℕ, drop}
 use Rattle.pmsi_model.specs.Job.{JobValue}
 use Rattle.sim_serial.specs.Sims.{shape_of}
-use Rattle.debugger.specs.Output.{Place}
+use Rattle.script_text.specs.Output.{Place}
 use Rattle.debugger.specs.Sessions.{HasCores, IsAt}
 use Rattle.debugger.proofs.Outputs.{IsOnIts}
 use Rattle.debugger.proofs.session.Session.run.Given as goal
