@@ -10,7 +10,7 @@ use Rattle.pmsi_model.specs.Latest.{ReadsLatestWrite}
 use Rattle.pmsi_model.specs.Waiting.{WaitsAreBounded}
 use Rattle.pmsi_outside.specs.Causes.{Rose}
 use Rattle.pmsi_outside.specs.Files.{Contents}
-use Rattle.tool_words.specs.Meaning.{AskedValue, run, sim, asm, dis, image, meaning}
+use Rattle.tool_words.specs.Meaning.{AskedValue, run, sim, trace, asm, dis, image, gen, debug, meaning}
 use Rattle.tool_files.specs.declared.refusal.Detail.{Detail}
 use Rattle.tool_files.specs.declared.refusal.Place.{Place}
 use Rattle.tool_files.specs.declared.refusal.Stop.{Stop}
@@ -42,9 +42,12 @@ pub record IsRun (contents : Option Contents) (keep : Keep) (name text : List �
 abbrev pub RunsFaithfully : Option Contents → AskedValue → List ℕ → Type 0
 RunsFaithfully contents (run keep name) text = IsRun contents keep name text
 RunsFaithfully contents (sim workers keep name) text = IsRun contents keep name text
+RunsFaithfully contents (trace name) text = ⊤
 RunsFaithfully contents (asm name) text = ⊤
 RunsFaithfully contents (dis name) text = ⊤
 RunsFaithfully contents (image name) text = ⊤
+RunsFaithfully contents (gen seed cores slots runs) text = ⊤
+RunsFaithfully contents (debug job script) text = ⊤
 
 -- ---- answers
 

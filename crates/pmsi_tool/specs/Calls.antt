@@ -1,6 +1,6 @@
 -- The two calls of the program, and the commands that each serves.
 use Rattle.std.specs.Prelude.{ℕ, List, Bool, true, false, not, Option, Some, None, if◌then◌else◌}
-use Rattle.tool_words.specs.Meaning.{AskedValue, meaning, run, sim, asm, dis, image}
+use Rattle.tool_words.specs.Meaning.{AskedValue, meaning, run, sim, trace, asm, dis, image, gen, debug}
 
 -- `tool` and `tool_threads`
 pub data Call : Type 0 where
@@ -11,9 +11,12 @@ pub data Call : Type 0 where
 abbrev pub has_threads : AskedValue → Bool
 has_threads (run keep name) = false
 has_threads (sim workers keep name) = true
+has_threads (trace name) = false
 has_threads (asm name) = false
 has_threads (dis name) = false
 has_threads (image name) = false
+has_threads (gen seed cores slots runs) = false
+has_threads (debug job script) = false
 
 -- `tool_threads` serves these, and `tool` the others
 abbrev pub serves : Call → AskedValue → Bool

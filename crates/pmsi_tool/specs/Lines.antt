@@ -12,10 +12,14 @@ use Rattle.job_text.specs.declared.job_fault.JobFault.{JobFault}
 use Rattle.job_text.specs.declared.job_fault.JobFault.TheVariants as fault
 use Rattle.job_text.specs.declared.job_fault.LineCause.{LineCause}
 use Rattle.job_text.specs.declared.job_fault.LineCause.TheVariants as why
+use Rattle.script_text.specs.declared.fault.ScriptCause.{ScriptCause}
+use Rattle.script_text.specs.declared.fault.ScriptCause.TheVariants as script_why
+use Rattle.script_text.specs.declared.fault.ScriptFault.{ScriptFault}
+use Rattle.script_text.specs.declared.fault.ScriptFault.TheVariants as script
 use Rattle.tool_files.specs.declared.refusal.Detail.{Detail}
 use Rattle.tool_files.specs.declared.refusal.Detail.TheVariants as detail
 use Rattle.tool_files.specs.declared.refusal.Place.{Place}
-use Rattle.tool_files.specs.declared.refusal.Place.TheVariants.{Input, Core}
+use Rattle.tool_files.specs.declared.refusal.Place.TheVariants.{Input, Core, Script}
 use Rattle.tool_files.specs.declared.refusal.Stop.TheVariants.{ReadFault, Refused, NoMemory}
 use Rattle.pmsi_tool.specs.declared.complaint.Complaint.{Complaint}
 use Rattle.pmsi_tool.specs.declared.complaint.Complaint.TheVariants.{Usage, Stopped}
@@ -94,11 +98,27 @@ fault_text (fault.Beyond core address) = codes "beyond " ++ decimal core ++ code
 fault_text (fault.Overlap core other address) = codes "overlap " ++ decimal core ++ codes " " ++ decimal other ++ codes " " ++ hex_word address
 fault_text fault.NoMemory = codes "no memory"
 
+-- ---- a script
+
+abbrev pub script_why_text : ScriptCause → List ℕ
+script_why_text script_why.Word = codes "word"
+script_why_text script_why.Count = codes "count"
+script_why_text script_why.Number = codes "number"
+script_why_text script_why.Range = codes "range"
+script_why_text script_why.Many = codes "many"
+
+-- want of memory is never what is wrong with a script
+abbrev pub script_text : ScriptFault → List ℕ
+script_text script.NotText = codes "not text"
+script_text (script.Line line cause) = line_text line ++ script_why_text cause
+script_text script.NoMemory = codes "no memory"
+
 -- ---- refusals
 
 abbrev pub place_text : Place → List ℕ
 place_text Input = codes "input"
 place_text (Core core) = codes "core " ++ decimal core
+place_text Script = codes "script"
 
 abbrev pub detail_text : Detail → List ℕ
 detail_text detail.Large = codes "large"
@@ -107,6 +127,7 @@ detail_text (detail.Job said) = fault_text said
 detail_text (detail.Source line found) = line_text line ++ cause_text found
 detail_text (detail.Image failed) = check_text failed
 detail_text (detail.Touches count) = codes "touches " ++ decimal count
+detail_text (detail.Script said) = script_text said
 
 abbrev pub refused_line : Place → Detail → List ℕ
 refused_line place said = codes "refused: " ++ place_text place ++ codes ": " ++ detail_text said ++ codes "\n"

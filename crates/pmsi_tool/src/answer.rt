@@ -4,12 +4,15 @@ ghost use Rattle.pmsi_model.specs.Geometry.{CanKeep};
 ghost use Rattle.pmsi_model.specs.Listing.{listing_of};
 ghost use Rattle.image_file.specs.Format.{image_bytes};
 ghost use Rattle.sim_serial.specs.Sims.{IsSimOf, Keeps};
-ghost use Rattle.tool_words.specs.Meaning.{AskedValue, HasWorkers, run, asm, dis, image, meaning, value_of};
+ghost use Rattle.tool_words.specs.Meaning.{AskedValue, IsAllowed, run, trace, asm, dis, image, meaning, value_of};
+ghost use Rattle.tool_files.specs.Course.{actions_text, keeps_actions};
 ghost use Rattle.tool_files.specs.Stops.{files_call};
 ghost use Rattle.pmsi_tool.specs.Calls.{serves, tool_call};
 ghost use Rattle.pmsi_tool.specs.Answers.{ComplainsOn, Gives, GivesText, IsUnasked, Stands, StopsOn};
 
 use crate::complaint::Complaint;
+use crate::debugged::debugged;
+use crate::made::made;
 use asm_print::listing_of;
 use image_file::write_image;
 use listing::listing;
@@ -19,11 +22,12 @@ use sim_serial::Sim;
 use std::alloc::Global;
 use tool_files::{Place, Stop, read_image_file, read_job, read_source};
 use tool_words::{Asked, asked_of};
+use trace_text::write_actions;
 
 /// What the words ask for.
 pub(crate) fn asked_in(alloc: Global, words: &[String]) -> Result<Asked<'_>, Complaint>
     ensures asked { IfOk result (λ asked. meaning (map string_bytes words.now) ≡ Some (value_of asked)) }
-    ensures workers { IfOk result HasWorkers }
+    ensures allowed { IfOk result IsAllowed }
     ensures complaint { IfErr result (IsUnasked (map string_bytes words.now)) }
 {
     match asked_of(alloc, words) {
@@ -50,6 +54,7 @@ pub(crate) fn answer_of<F: Files>(
 
 /// The result of a command that is served on one thread.
 fn result_of<F: Files>(alloc: Global, asked: Asked<'_>, files: &mut F) -> Result<Vec<u8>, Complaint>
+    requires { IsAllowed asked }
     ensures served { IfOk result (λ _. serves tool_call (value_of asked.entry) ≡ true) }
     ensures text { IfOk result (λ text. GivesText (F.contents files.old) (value_of asked.entry) text.items) }
     ensures complaint { IfErr result (ComplainsOn tool_call (value_of asked.entry)
@@ -59,9 +64,17 @@ fn result_of<F: Files>(alloc: Global, asked: Asked<'_>, files: &mut F) -> Result
     match asked {
         Asked::Run { keep, job } => Ok(run(alloc, files, keep, job)?),
         Asked::Sim { .. } => Err(Complaint::Usage),
+        Asked::Trace(job) => Ok(traced(alloc, files, job)?),
         Asked::Asm(source) => Ok(assembled(alloc, files, source)?),
         Asked::Dis(image) => Ok(disassembled(alloc, files, image)?),
         Asked::Image(image) => Ok(checked(alloc, files, image)?),
+        Asked::Gen {
+            seed,
+            cores,
+            slots,
+            run,
+        } => Ok(made(alloc, files, seed, cores, slots, run)?),
+        Asked::Debug { job, script } => Ok(debugged(alloc, files, job, script)?),
     }
 }
 
@@ -77,8 +90,33 @@ fn run<F: Files>(alloc: Global, files: &mut F, keep: Keep, name: &str) -> Result
     Ok(listed(alloc, &job, &sim, keep)?)
 }
 
+/// The text of the actions of a job's run.
+fn traced<F: Files>(alloc: Global, files: &mut F, name: &str) -> Result<Vec<u8>, Stop>
+    ensures text { IfOk result (λ text. GivesText (F.contents files.old) (trace name.now) text.items) }
+    ensures stop { IfErr result (StopsOn (trace name.now)
+        (files_call (F.contents files.old) (F.faults files.old) (F.faults files.new) (F.blamed files.new))) }
+    ensures contents { F.contents files.new ≡ F.contents files.old }
+{
+    let keep = Keep {
+        trace: true,
+        touches: false,
+    };
+    let job = read_job(alloc, files, keep, name)?;
+    let sim = run_serially(alloc, &job, keep)?;
+    Ok(actions_of(alloc, &job, &sim)?)
+}
+
+/// The text of the actions of a job's machine after its last slot.
+fn actions_of(alloc: Global, _job: &Job, sim: &Sim) -> Result<Vec<u8>, NoMemory>
+    requires machine { IsSimOf _job.now _job.now.shape.slots sim.now }
+    requires keeps { Keeps keeps_actions sim.now }
+    ensures { IfOk result (λ text. text.items ≡ actions_text _job.now) }
+{
+    write_actions(alloc, sim.shape().cores, sim.bus().trace())
+}
+
 /// The machine of a job after its last slot.
-fn run_serially(alloc: Global, job: &Job, keep: Keep) -> Result<Sim, NoMemory>
+pub(crate) fn run_serially(alloc: Global, job: &Job, keep: Keep) -> Result<Sim, NoMemory>
     requires { CanKeep keep job.now.shape }
     ensures machine { IfOk result (λ sim. IsSimOf job.now job.now.shape.slots sim) }
     ensures keeps { IfOk result (λ sim. Keeps keep sim) }

@@ -1,5 +1,5 @@
-//! The program's commands as two calls: words, files and two sinks go in, and a status comes out. `tool` does `run`, `asm`,
-//! `dis` and `image`, and `tool_threads` does `sim`.
+//! The program's commands as two calls: words, files and two sinks go in, and a status comes out. `tool` does all of
+//! them but `sim`, which `tool_threads` does.
 #![tactic(auto)]
 
 ghost use Rattle.std.specs.Prelude.{◌≡◌, ◌≢◌, ◌⊎◌, map, string_bytes};
@@ -11,7 +11,9 @@ ghost use Rattle.pmsi_tool.specs.Lines.{no_memory_line};
 
 mod answer;
 mod complaint;
+mod debugged;
 mod lines;
+mod made;
 mod tell;
 mod threads;
 

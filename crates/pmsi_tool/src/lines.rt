@@ -1,11 +1,12 @@
 //! The lines that tell why files are refused.
 ghost use Rattle.std.specs.Prelude.{◌≡◌, ◌++◌, codes, IfOk, OnOk};
 ghost use Rattle.std.specs.Fmt.{signed_decimal};
-ghost use Rattle.pmsi_tool.specs.Lines.{cause_text, check_text, detail_text, fault_text, head_text, line_text, place_text, refused_line, why_text};
+ghost use Rattle.pmsi_tool.specs.Lines.{cause_text, check_text, detail_text, fault_text, head_text, line_text, place_text, refused_line, script_text, script_why_text, why_text};
 
 use asm_parse::AsmCause;
 use image_file::ImageFault;
 use job_text::{HeadWord, JobFault, LineCause};
+use script_text::{ScriptCause, ScriptFault};
 use std::alloc::{AllocError, Global};
 use text_out::{push_field, push_hex_field, push_newline, push_signed, push_text};
 use tool_files::{Detail, Place};
@@ -33,6 +34,7 @@ fn push_place(line: &mut Vec<u8>, place: Place) -> Result<(), AllocError>
     match place {
         Place::Input => push_text(line, "input"),
         Place::Core(core) => push_field(line, "core ", core.into()),
+        Place::Script => push_text(line, "script"),
     }
 }
 
@@ -49,6 +51,7 @@ fn push_detail(line: &mut Vec<u8>, detail: Detail) -> Result<(), AllocError>
         }
         Detail::Image(fault) => push_check(line, fault),
         Detail::Touches(count) => push_field(line, "touches ", count),
+        Detail::Script(fault) => push_script_fault(line, fault),
     }
 }
 
@@ -57,6 +60,31 @@ fn push_line_number(line: &mut Vec<u8>, number: u32) -> Result<(), AllocError>
 {
     push_field(line, "line ", number.into())?;
     push_text(line, ": ")
+}
+
+fn push_script_fault(line: &mut Vec<u8>, fault: ScriptFault) -> Result<(), AllocError>
+    ensures { OnOk result (line.new.items ≡ line.old.items ++ script_text fault) }
+{
+    match fault {
+        ScriptFault::NotText => push_text(line, "not text"),
+        ScriptFault::Line(number, cause) => {
+            push_line_number(line, number)?;
+            push_text(line, script_why(cause))
+        }
+        ScriptFault::NoMemory => push_text(line, "no memory"),
+    }
+}
+
+fn script_why(cause: ScriptCause) -> &'static str
+    ensures { result.now ≡ script_why_text cause }
+{
+    match cause {
+        ScriptCause::Word => "word",
+        ScriptCause::Count => "count",
+        ScriptCause::Number => "number",
+        ScriptCause::Range => "range",
+        ScriptCause::Many => "many",
+    }
 }
 
 fn push_fault(line: &mut Vec<u8>, fault: JobFault) -> Result<(), AllocError>

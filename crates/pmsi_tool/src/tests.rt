@@ -5,6 +5,8 @@ use std::process::Abort;
 use std::test::Fail;
 
 mod asm;
+mod commands;
+mod failing;
 mod faults;
 mod jobs;
 mod steps;
@@ -239,7 +241,7 @@ fn refuses_files(rt: HostRuntime) -> Result<(), Fail> {
 #[test]
 fn refuses_large_files(rt: HostRuntime) -> Result<(), Fail> {
     let alloc = rt.alloc();
-    for command in ["run", "image"] {
+    for command in ["run", "asm", "dis"] {
         let large = vec![in alloc; 0u8; 16_777_217]?;
         refuses(&rt, alloc, command, large, "large")?;
     }

@@ -1,7 +1,7 @@
 //! The answer to a call of `tool_threads`, before anything is written.
 ghost use Rattle.std.specs.Prelude.{◌≡◌, ◌≤◌, true, map, string_bytes, IfOk, IfErr};
 ghost use Rattle.pmsi_model.specs.declared.limits.TheConstants.{MAX_WORKERS};
-ghost use Rattle.tool_words.specs.Meaning.{HasWorkers, sim, value_of};
+ghost use Rattle.tool_words.specs.Meaning.{IsAllowed, sim, value_of};
 ghost use Rattle.tool_files.specs.Stops.{files_call};
 ghost use Rattle.pmsi_tool.specs.Calls.{serves, threads_call};
 ghost use Rattle.pmsi_tool.specs.Answers.{ComplainsOn, Gives, GivesText, Stands, StopsOn};
@@ -42,7 +42,7 @@ fn result_of<R: Threads + Wait + Sync, F: Files, G: Gate + Sync>(
     files: &mut F,
     gate: &G,
 ) -> Result<Vec<u8>, Complaint>
-    requires { HasWorkers asked }
+    requires { IsAllowed asked }
     ensures served { IfOk result (λ _. serves threads_call (value_of asked.entry) ≡ true) }
     ensures text { IfOk result (λ text. GivesText (F.contents files.old) (value_of asked.entry) text.items) }
     ensures complaint { IfErr result (ComplainsOn threads_call (value_of asked.entry)
@@ -51,9 +51,13 @@ fn result_of<R: Threads + Wait + Sync, F: Files, G: Gate + Sync>(
 {
     match asked {
         Asked::Sim { workers, keep, job } => Ok(sim(rt, alloc, files, workers, keep, job, gate)?),
-        Asked::Run { .. } | Asked::Asm(_) | Asked::Dis(_) | Asked::Image(_) => {
-            Err(Complaint::Usage)
-        }
+        Asked::Run { .. }
+        | Asked::Trace(_)
+        | Asked::Asm(_)
+        | Asked::Dis(_)
+        | Asked::Image(_)
+        | Asked::Gen { .. }
+        | Asked::Debug { .. } => Err(Complaint::Usage),
     }
 }
 

@@ -97,11 +97,15 @@ module _ {W : Type 0} where
       → programs contents 0 given [] ends first → programs contents 0 given [] then step
   programs_on contents given then first step after = programs_map contents 0 given [] ends then first step (passes first then step after) (λ images. value_of first then step images after)
 
+  pub planned_on : (contents : Option Contents) (keep : Keep) (plan : JobPlan) (then : JobValue → Step W → Type 0) (first : Step JobValue) (step : Step W) → After first then step
+      → planned contents keep ends plan first → planned contents keep then plan step
+  planned_on contents keep plan then first step after = planned_map contents keep plan ends then first step (passes first then step after) (λ job. value_of first then step job after)
+
   pub job_on : (contents : Option Contents) (keep : Keep) (name : List ℕ) (then : JobValue → Step W → Type 0) (first : Step JobValue) (step : Step W) → After first then step
       → job_file contents keep name ends first → job_file contents keep name then step
   job_on contents keep name then first step after =
       kind_map contents Input name IsPlanOf JobFails (planned contents keep ends) (planned contents keep then) first step (passes first then step after)
-      (λ plan. planned_map contents keep plan ends then first step (passes first then step after) (λ job. value_of first then step job after))
+      (λ plan. planned_on contents keep plan then first step after)
 
 -- ---- what stops a course stops the longer one too
 

@@ -1,26 +1,30 @@
 -- A command comes to one end.
-use Rattle.std.proofs.Common.{◌≡◌, ◌∙◌, inl, inr, ap, sym, subst, ℕ, ◌+◌, List, [], ◌∷◌, ◌++◌, arith}
+use Rattle.std.proofs.Common.{◌≡◌, ◌∙◌, inl, inr, ap, sym, subst, ℕ, ◌+◌, List, [], ◌∷◌, ◌++◌, true, false, arith}
 use Rattle.std.specs.Prelude.{Option, Some, None, IsSomeAnd}
 use Rattle.pmsi_model.specs.declared.Keep.{Keep}
+use Rattle.pmsi_model.specs.declared.job.Geometry.{Geometry}
 use Rattle.pmsi_model.specs.Image.{ImageValue}
 use Rattle.pmsi_model.specs.Job.{JobValue}
-use Rattle.pmsi_model.specs.Listing.{listing_of}
+use Rattle.pmsi_model.specs.Listing.{listing_of, summary_of}
 use Rattle.pmsi_outside.specs.Files.{Contents}
 use Rattle.asm_print.specs.ListingText.{listing_text}
 use Rattle.image_file.specs.Format.{image_bytes}
 use Rattle.job_text.specs.declared.plan.JobPlan.{JobPlan}
 use Rattle.job_text.specs.declared.plan.Program.{Program}
 use Rattle.job_text.specs.declared.plan.Program.TheVariants.{Words, Asm, Image}
-use Rattle.job_text.specs.Plans.{IsPlanOf}
-use Rattle.tool_words.specs.Meaning.{AskedValue, run, sim, asm, dis, image}
+use Rattle.job_text.specs.Plans.{IsPlanOf, plan_text}
+use Rattle.job_text.specs.Generating.{generated}
+use Rattle.script_text.specs.declared.command.Command.{Command}
+use Rattle.script_text.specs.Output.{output_of}
+use Rattle.tool_words.specs.Meaning.{AskedValue, run, sim, trace, asm, dis, image, gen, debug}
 use Rattle.tool_files.specs.declared.refusal.Place.{Place}
-use Rattle.tool_files.specs.declared.refusal.Place.TheVariants.{Input, Core}
+use Rattle.tool_files.specs.declared.refusal.Place.TheVariants.{Input, Core, Script}
 use Rattle.tool_files.specs.declared.refusal.Detail.{Detail}
 use Rattle.tool_files.specs.declared.refusal.Detail.TheVariants as detail
-use Rattle.tool_files.specs.Parsed.{IsSource, SourceFails, IsImageFile, ImageFails, JobFails, image_of_words, IsMachine, MachineFails}
-use Rattle.tool_files.specs.Course.{Step, opens, refuses, ends, within, file, checked, source_file, image_file, program, programs, planned, plan_file, job_file, IsEnd}
+use Rattle.tool_files.specs.Parsed.{IsSource, SourceFails, IsImageFile, ImageFails, JobFails, image_of_words, IsMachine, MachineFails, IsScript, ScriptFails}
+use Rattle.tool_files.specs.Course.{Step, opens, refuses, ends, within, file, checked, source_file, image_file, program, programs, script_file, planned, plan_file, job_file, keeps_nothing, keeps_actions, actions_text, IsEnd}
 use Rattle.tool_files.specs.Laws.{OneEnd}
-use Rattle.tool_files.proofs.Settled.{Settled, source_settled, image_settled, plan_settled, machine_settled}
+use Rattle.tool_files.proofs.Settled.{Settled, source_settled, image_settled, script_settled, plan_settled, machine_settled}
 
 same_told : (told : Option (List ℕ)) (held other : List ℕ) → IsSomeAnd told (λ t. t ≡ held) → IsSomeAnd told (λ t. t ≡ other) → held ≡ other
 same_told None held other h o = absurd h
@@ -67,6 +71,9 @@ module _ {V : Type 0} where
   image_end : (contents : Contents) (place : Place) (name : List ℕ) (then : ImageValue → Step V → Type 0) → ((i : ImageValue) → OnlyEnd (then i)) → OnlyEnd (image_file (Some contents) place name then)
   image_end contents place name then = kind_end contents place name IsImageFile ImageFails then image_settled
 
+  script_end : (contents : Contents) (name : List ℕ) (shape : Geometry) (then : List Command → Step V → Type 0) → ((c : List Command) → OnlyEnd (then c)) → OnlyEnd (script_file (Some contents) name shape then)
+  script_end contents name shape then = kind_end contents Script name (IsScript shape) (ScriptFails shape) then (script_settled shape)
+
   program_end : (contents : Contents) (core : ℕ) (given : Program) (then : ImageValue → Step V → Type 0) → ((i : ImageValue) → OnlyEnd (then i)) → OnlyEnd (program (Some contents) core given then)
   program_end contents core (Words words) then only = only (image_of_words words)
   program_end contents core (Asm name) then only = source_end contents (Core core) name then only
@@ -77,15 +84,23 @@ module _ {V : Type 0} where
   programs_end contents core (g ∷ given) images then only =
       program_end contents core g (λ i. programs (Some contents) (core + 1) given (images ++ i ∷ []) then) (λ i. programs_end contents (core + 1) given (images ++ i ∷ []) then only)
 
+  planned_end : (contents : Contents) (keep : Keep) (plan : JobPlan) (then : JobValue → Step V → Type 0) → ((j : JobValue) → OnlyEnd (then j)) → OnlyEnd (planned (Some contents) keep then plan)
+  planned_end contents keep plan then only = programs_end contents 0 plan.programs [] (λ images. checked Input (IsMachine keep plan.shape images) (MachineFails keep plan.shape images) then)
+      (λ images. checked_end Input (IsMachine keep plan.shape images) (MachineFails keep plan.shape images) then (machine_settled keep plan.shape images) only)
+
   job_end : (contents : Contents) (keep : Keep) (name : List ℕ) (then : JobValue → Step V → Type 0) → ((j : JobValue) → OnlyEnd (then j)) → OnlyEnd (job_file (Some contents) keep name then)
-  job_end contents keep name then only = kind_end contents Input name IsPlanOf JobFails (planned (Some contents) keep then) plan_settled
-      (λ plan. programs_end contents 0 plan.programs [] (λ images. checked Input (IsMachine keep plan.shape images) (MachineFails keep plan.shape images) then)
-      (λ images. checked_end Input (IsMachine keep plan.shape images) (MachineFails keep plan.shape images) then (machine_settled keep plan.shape images) only))
+  job_end contents keep name then only = kind_end contents Input name IsPlanOf JobFails (planned (Some contents) keep then) plan_settled (λ plan. planned_end contents keep plan then only)
 
 -- a row a command
 pub one_end : OneEnd
 one_end contents (run keep name) = job_end contents keep name (λ j. ends (listing_of j keep)) (λ j. end_ends (listing_of j keep))
 one_end contents (sim workers keep name) = job_end contents keep name (λ j. ends (listing_of j keep)) (λ j. end_ends (listing_of j keep))
+one_end contents (trace name) = job_end contents keeps_actions name (λ j. ends (actions_text j)) (λ j. end_ends (actions_text j))
 one_end contents (asm name) = source_end contents Input name (λ i. ends (image_bytes i)) (λ i. end_ends (image_bytes i))
 one_end contents (dis name) = image_end contents Input name (λ i. ends (listing_text i)) (λ i. end_ends (listing_text i))
 one_end contents (image name) = image_end contents Input name (λ i. ends (image_bytes i)) (λ i. end_ends (image_bytes i))
+one_end contents (gen seed cores slots false) = end_ends (plan_text (generated seed cores slots))
+one_end contents (gen seed cores slots true) = planned_end contents keeps_nothing (generated seed cores slots) (λ j. ends (summary_of j)) (λ j. end_ends (summary_of j))
+one_end contents (debug job script) =
+    job_end contents keeps_nothing job (λ j. script_file (Some contents) script j.shape (λ commands. ends (output_of j commands)))
+    (λ j. script_end contents script j.shape (λ commands. ends (output_of j commands)) (λ commands. end_ends (output_of j commands)))

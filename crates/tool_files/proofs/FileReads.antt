@@ -83,6 +83,36 @@ core_stops contents given core index g images earlier files stop is less stops c
     stops_on (program contents core g ends) (programs contents 0 given [] ends) earlier files stop less
     (λ n. on (opens n) (opens n) refl) (λ p d. on (refuses p d) (refuses p d) refl) stops
 
+-- ---- a plan
+
+module _ (contents : Option Contents) (keep : Keep) where
+  abbrev machine : JobPlan → List ImageValue → Step JobValue → Type 0
+  machine plan images = checked Input (IsMachine keep plan.shape images) (MachineFails keep plan.shape images) ends
+
+  programs_then : (plan : JobPlan) (first : Step (List ImageValue)) (step : Step JobValue) → After first (machine plan) step → programs contents 0 plan.programs [] ends first → planned contents keep ends plan step
+  programs_then plan first step after goes = programs_on contents plan.programs (machine plan) first step after goes
+
+  -- its programs were read, and their images give a job
+  pub programs_read : (plan : JobPlan) (images : List ImageValue) (job : JobValue) → programs contents 0 plan.programs [] ends (gives images)
+      → IsMachine keep plan.shape images job → planned contents keep ends plan (gives job)
+  programs_read plan images job goes is = programs_then plan (gives images) (gives job) (inr (job, is, refl)) goes
+
+  -- its programs can't be read
+  pub programs_unread : (plan : JobPlan) (files : FilesCall) (stop : Stop)
+      → Stops (programs contents 0 plan.programs [] ends) files stop → Stops (planned contents keep ends plan) (files_call files.contents files.before files.now files.blamed) stop
+  programs_unread plan files stop = stops_on (programs contents 0 plan.programs [] ends) (planned contents keep ends plan) files.before files stop (omega arith)
+      (λ n goes. programs_then plan (opens n) (opens n) refl goes)
+      (λ p d goes. programs_then plan (refuses p d) (refuses p d) refl goes)
+
+  -- their images give no job
+  pub machine_refused : (plan : JobPlan) (images : List ImageValue) (files : FilesCall) (stop : Stop) → programs contents 0 plan.programs [] ends (gives images)
+      → StopsAt Input (MachineFails keep plan.shape images) stop → Stops (planned contents keep ends plan) files stop
+  machine_refused plan images files ReadFault goes stops = absurd stops
+  machine_refused plan images files (Refused at detail) goes stops =
+      subst (λ (p : Place). planned contents keep ends plan (refuses p detail)) (sym stops.0)
+      (programs_then plan (gives images) (refuses Input detail) (inl (detail, stops.1, refl)) goes)
+  machine_refused plan images files NoMemory goes stops = tt
+
 -- ---- a job
 
 module _ (contents : Option Contents) (keep : Keep) (name : List ℕ) where
@@ -96,29 +126,9 @@ module _ (contents : Option Contents) (keep : Keep) (name : List ℕ) where
       (λ n. kind_on contents Input name IsPlanOf JobFails (planned contents keep ends) (opens n) (opens n) refl)
       (λ p d. kind_on contents Input name IsPlanOf JobFails (planned contents keep ends) (refuses p d) (refuses p d) refl)
 
-  abbrev machine : JobPlan → List ImageValue → Step JobValue → Type 0
-  machine plan images = checked Input (IsMachine keep plan.shape images) (MachineFails keep plan.shape images) ends
-
-  planned_on : (plan : JobPlan) (first : Step (List ImageValue)) (step : Step JobValue) → After first (machine plan) step → programs contents 0 plan.programs [] ends first → planned contents keep ends plan step
-  planned_on plan first step after goes = programs_on contents plan.programs (machine plan) first step after goes
-
-  -- its programs were read, and their images give a job
-  pub programs_read : (plan : JobPlan) (images : List ImageValue) (job : JobValue) → plan_file contents name ends (gives plan) → programs contents 0 plan.programs [] ends (gives images)
-      → IsMachine keep plan.shape images job → job_file contents keep name ends (gives job)
-  programs_read plan images job read goes is = plan_read plan (gives job) read (planned_on plan (gives images) (gives job) (inr (job, is, refl)) goes)
-
-  -- its programs can't be read
-  pub programs_unread : (plan : JobPlan) (earlier : ℕ) (files : FilesCall) (stop : Stop) → earlier ≤ files.before → plan_file contents name ends (gives plan)
-      → Stops (programs contents 0 plan.programs [] ends) files stop → Stops (job_file contents keep name ends) (files_call files.contents earlier files.now files.blamed) stop
-  programs_unread plan earlier files stop less read = stops_on (programs contents 0 plan.programs [] ends) (job_file contents keep name ends) earlier files stop less
-      (λ n goes. plan_read plan (opens n) read (planned_on plan (opens n) (opens n) refl goes))
-      (λ p d goes. plan_read plan (refuses p d) read (planned_on plan (refuses p d) (refuses p d) refl goes))
-
-  -- their images give no job
-  pub machine_refused : (plan : JobPlan) (images : List ImageValue) (files : FilesCall) (stop : Stop) → plan_file contents name ends (gives plan) → programs contents 0 plan.programs [] ends (gives images)
-      → StopsAt Input (MachineFails keep plan.shape images) stop → Stops (job_file contents keep name ends) files stop
-  machine_refused plan images files ReadFault read goes stops = absurd stops
-  machine_refused plan images files (Refused at detail) read goes stops =
-      subst (λ (p : Place). job_file contents keep name ends (refuses p detail)) (sym stops.0)
-      (plan_read plan (refuses Input detail) read (planned_on plan (gives images) (refuses Input detail) (inl (detail, stops.1, refl)) goes))
-  machine_refused plan images files NoMemory read goes stops = tt
+  -- the plan was read, and its programs can't be read, or give no job
+  pub planned_stops : (plan : JobPlan) (earlier : ℕ) (files : FilesCall) (stop : Stop) → earlier ≤ files.before → plan_file contents name ends (gives plan)
+      → Stops (planned contents keep ends plan) files stop → Stops (job_file contents keep name ends) (files_call files.contents earlier files.now files.blamed) stop
+  planned_stops plan earlier files stop less read = stops_on (planned contents keep ends plan) (job_file contents keep name ends) earlier files stop less
+      (λ n goes. plan_read plan (opens n) read goes)
+      (λ p d goes. plan_read plan (refuses p d) read goes)

@@ -1,28 +1,32 @@
 -- Reading in order, and what comes by the bytes alone.
-use Rattle.std.proofs.Common.{◌≡◌, inl, inr, ap, sym, refl, subst, ℕ, ◌+◌, List, [], ◌∷◌, ◌++◌, append_assoc}
+use Rattle.std.proofs.Common.{◌≡◌, inl, inr, ap, sym, refl, subst, ℕ, ◌+◌, List, [], ◌∷◌, ◌++◌, true, false, append_assoc}
 use Rattle.std.specs.Prelude.{Option, None, ⊤}
 use Rattle.pmsi_model.specs.declared.Keep.{Keep}
+use Rattle.pmsi_model.specs.declared.job.Geometry.{Geometry}
 use Rattle.pmsi_model.specs.Image.{ImageValue}
 use Rattle.pmsi_model.specs.Job.{JobValue}
-use Rattle.pmsi_model.specs.Listing.{listing_of}
+use Rattle.pmsi_model.specs.Listing.{listing_of, summary_of}
 use Rattle.pmsi_outside.specs.Files.{Contents}
 use Rattle.asm_print.specs.ListingText.{listing_text}
 use Rattle.image_file.specs.Format.{image_bytes}
 use Rattle.job_text.specs.declared.plan.JobPlan.{JobPlan}
 use Rattle.job_text.specs.declared.plan.Program.{Program}
 use Rattle.job_text.specs.declared.plan.Program.TheVariants.{Words, Asm, Image}
-use Rattle.job_text.specs.Plans.{IsPlanOf}
-use Rattle.tool_words.specs.Meaning.{AskedValue, run, sim, asm, dis, image}
+use Rattle.job_text.specs.Plans.{IsPlanOf, plan_text}
+use Rattle.job_text.specs.Generating.{generated}
+use Rattle.script_text.specs.declared.command.Command.{Command}
+use Rattle.script_text.specs.Output.{output_of}
+use Rattle.tool_words.specs.Meaning.{AskedValue, run, sim, trace, asm, dis, image, gen, debug}
 use Rattle.tool_files.specs.declared.refusal.Place.{Place}
-use Rattle.tool_files.specs.declared.refusal.Place.TheVariants.{Input, Core}
+use Rattle.tool_files.specs.declared.refusal.Place.TheVariants.{Input, Core, Script}
 use Rattle.tool_files.specs.declared.refusal.Detail.{Detail}
 use Rattle.tool_files.specs.declared.refusal.Detail.TheVariants as detail
-use Rattle.tool_files.specs.Parsed.{IsSource, SourceFails, IsImageFile, ImageFails, JobFails, image_of_words, IsMachine, MachineFails}
-use Rattle.tool_files.specs.Course.{Step, opens, refuses, gives, Reads, Comes}
-use Rattle.tool_files.specs.Ordered.{Helds, last, next_file, next_checked, next_source, next_image, next_program, next_programs, next_planned, next_job, IsNext, Follows}
+use Rattle.tool_files.specs.Parsed.{IsSource, SourceFails, IsImageFile, ImageFails, JobFails, image_of_words, IsMachine, MachineFails, IsScript, ScriptFails}
+use Rattle.tool_files.specs.Course.{Step, opens, refuses, gives, Reads, keeps_nothing, keeps_actions, actions_text, Comes}
+use Rattle.tool_files.specs.Ordered.{Helds, last, next_file, next_checked, next_source, next_image, next_program, next_programs, next_script, next_planned, next_job, IsNext, Follows}
 use Rattle.tool_files.specs.Laws.{SameOrder}
 use Rattle.tool_files.proofs.Sames.{same_course}
-use Rattle.tool_files.proofs.Settled.{Settled, source_settled, image_settled, plan_settled, machine_settled}
+use Rattle.tool_files.proofs.Settled.{Settled, source_settled, image_settled, script_settled, plan_settled, machine_settled}
 
 module _ {V : Type 0} (contents : Option Contents) where
   -- each of the bytes is that of the name that the order opens behind those before it
@@ -97,6 +101,9 @@ module _ {V : Type 0} (contents : Option Contents) where
   kind_agree place name Is Fails told free settled agree =
       file_agree place name (λ held. next_checked place (Is held) (Fails held) told) (λ held. next_checked place (Is held) (Fails held) free) (λ held. checked_agree place (Is held) (Fails held) told free (settled held) agree)
 
+  script_agree : (name : List ℕ) (shape : Geometry) (told free : List Command → Helds → Step V → Type 0) → ((c : List Command) → Agree (told c) (free c)) → Agree (next_script contents name shape told) (next_script None name shape free)
+  script_agree name shape told free agree = kind_agree Script name (IsScript shape) (ScriptFails shape) told free (script_settled shape) agree
+
   program_agree : (core : ℕ) (given : Program) (told free : ImageValue → Helds → Step V → Type 0) → ((i : ImageValue) → Agree (told i) (free i)) → Agree (next_program contents core given told) (next_program None core given free)
   program_agree core (Words words) told free agree = agree (image_of_words words)
   program_agree core (Asm name) told free agree = kind_agree (Core core) name IsSource SourceFails told free source_settled agree
@@ -108,19 +115,29 @@ module _ {V : Type 0} (contents : Option Contents) where
       program_agree core g (λ i. next_programs contents (core + 1) given (images ++ i ∷ []) told) (λ i. next_programs None (core + 1) given (images ++ i ∷ []) free)
       (λ i. programs_agree (core + 1) given (images ++ i ∷ []) told free agree)
 
-  job_agree : (keep : Keep) (name : List ℕ) (told free : JobValue → Helds → Step V → Type 0) → ((j : JobValue) → Agree (told j) (free j)) → Agree (next_job contents keep name told) (next_job None keep name free)
-  job_agree keep name told free agree = kind_agree Input name IsPlanOf JobFails (next_planned contents keep told) (next_planned None keep free) plan_settled
-      (λ plan. programs_agree 0 plan.programs [] (λ images. next_checked Input (IsMachine keep plan.shape images) (MachineFails keep plan.shape images) told)
+  planned_agree : (keep : Keep) (plan : JobPlan) (told free : JobValue → Helds → Step V → Type 0) → ((j : JobValue) → Agree (told j) (free j)) → Agree (next_planned contents keep told plan) (next_planned None keep free plan)
+  planned_agree keep plan told free agree = programs_agree 0 plan.programs [] (λ images. next_checked Input (IsMachine keep plan.shape images) (MachineFails keep plan.shape images) told)
       (λ images. next_checked Input (IsMachine keep plan.shape images) (MachineFails keep plan.shape images) free)
-      (λ images. checked_agree Input (IsMachine keep plan.shape images) (MachineFails keep plan.shape images) told free (machine_settled keep plan.shape images) agree))
+      (λ images. checked_agree Input (IsMachine keep plan.shape images) (MachineFails keep plan.shape images) told free (machine_settled keep plan.shape images) agree)
+
+  job_agree : (keep : Keep) (name : List ℕ) (told free : JobValue → Helds → Step V → Type 0) → ((j : JobValue) → Agree (told j) (free j)) → Agree (next_job contents keep name told) (next_job None keep name free)
+  job_agree keep name told free agree = kind_agree Input name IsPlanOf JobFails (next_planned contents keep told) (next_planned None keep free) plan_settled (λ plan. planned_agree keep plan told free agree)
 
 -- a row a command
 agree_for : (contents : Option Contents) (asked : AskedValue) → Agree contents (IsNext contents asked) (IsNext None asked)
 agree_for contents (run keep name) = job_agree contents keep name (λ j. last (listing_of j keep)) (λ j. last (listing_of j keep)) (λ j. last_agree contents (listing_of j keep))
 agree_for contents (sim workers keep name) = job_agree contents keep name (λ j. last (listing_of j keep)) (λ j. last (listing_of j keep)) (λ j. last_agree contents (listing_of j keep))
+agree_for contents (trace name) = job_agree contents keeps_actions name (λ j. last (actions_text j)) (λ j. last (actions_text j)) (λ j. last_agree contents (actions_text j))
 agree_for contents (asm name) = kind_agree contents Input name IsSource SourceFails (λ i. last (image_bytes i)) (λ i. last (image_bytes i)) source_settled (λ i. last_agree contents (image_bytes i))
 agree_for contents (dis name) = kind_agree contents Input name IsImageFile ImageFails (λ i. last (listing_text i)) (λ i. last (listing_text i)) image_settled (λ i. last_agree contents (listing_text i))
 agree_for contents (image name) = kind_agree contents Input name IsImageFile ImageFails (λ i. last (image_bytes i)) (λ i. last (image_bytes i)) image_settled (λ i. last_agree contents (image_bytes i))
+agree_for contents (gen seed cores slots false) = last_agree contents (plan_text (generated seed cores slots))
+agree_for contents (gen seed cores slots true) =
+    planned_agree contents keeps_nothing (generated seed cores slots) (λ j. last (summary_of j)) (λ j. last (summary_of j)) (λ j. last_agree contents (summary_of j))
+agree_for contents (debug job script) =
+    job_agree contents keeps_nothing job (λ j. next_script contents script j.shape (λ commands. last (output_of j commands)))
+    (λ j. next_script None script j.shape (λ commands. last (output_of j commands)))
+    (λ j. script_agree contents script j.shape (λ commands. last (output_of j commands)) (λ commands. last (output_of j commands)) (λ commands. last_agree contents (output_of j commands)))
 
 same_follows : (contents : Option Contents) (asked : AskedValue) (before helds : Helds)
     → (Following contents (IsNext None asked) before helds → Follows contents asked before helds) × (Follows contents asked before helds → Following contents (IsNext None asked) before helds)

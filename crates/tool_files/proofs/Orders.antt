@@ -1,30 +1,34 @@
 -- What comes on the bytes of files in the order of opening: one thing, and always something.
-use Rattle.std.proofs.Common.{◌≡◌, ◌∙◌, ◌⊎◌, inl, inr, ap, sym, refl, subst, ℕ, ◌+◌, ◌≤◌, ◌<◌, List, [], ◌∷◌, ◌++◌, length, arith}
+use Rattle.std.proofs.Common.{◌≡◌, ◌∙◌, ◌⊎◌, inl, inr, ap, sym, refl, subst, ℕ, ◌+◌, ◌≤◌, ◌<◌, List, [], ◌∷◌, ◌++◌, length, true, false, arith}
 use Rattle.std.proofs.lemmas.Bool.{cases_lt}
 use Rattle.std.specs.Prelude.{Option, None, ⊤}
 use Rattle.std.specs.List.{All}
 use Rattle.pmsi_model.specs.declared.limits.TheConstants.{MAX_FILE_BYTES}
 use Rattle.pmsi_model.specs.declared.Keep.{Keep}
+use Rattle.pmsi_model.specs.declared.job.Geometry.{Geometry}
 use Rattle.pmsi_model.specs.Image.{ImageValue}
 use Rattle.pmsi_model.specs.Job.{JobValue}
-use Rattle.pmsi_model.specs.Listing.{listing_of}
+use Rattle.pmsi_model.specs.Listing.{listing_of, summary_of}
 use Rattle.pmsi_outside.specs.Files.{Contents}
 use Rattle.asm_print.specs.ListingText.{listing_text}
 use Rattle.image_file.specs.Format.{image_bytes}
 use Rattle.job_text.specs.declared.plan.JobPlan.{JobPlan}
 use Rattle.job_text.specs.declared.plan.Program.{Program}
 use Rattle.job_text.specs.declared.plan.Program.TheVariants.{Words, Asm, Image}
-use Rattle.job_text.specs.Plans.{IsPlanOf}
-use Rattle.tool_words.specs.Meaning.{AskedValue, run, sim, asm, dis, image}
+use Rattle.job_text.specs.Plans.{IsPlanOf, plan_text}
+use Rattle.job_text.specs.Generating.{generated}
+use Rattle.script_text.specs.declared.command.Command.{Command}
+use Rattle.script_text.specs.Output.{output_of}
+use Rattle.tool_words.specs.Meaning.{AskedValue, run, sim, trace, asm, dis, image, gen, debug}
 use Rattle.tool_files.specs.declared.refusal.Place.{Place}
-use Rattle.tool_files.specs.declared.refusal.Place.TheVariants.{Input, Core}
+use Rattle.tool_files.specs.declared.refusal.Place.TheVariants.{Input, Core, Script}
 use Rattle.tool_files.specs.declared.refusal.Detail.{Detail}
 use Rattle.tool_files.specs.declared.refusal.Detail.TheVariants as detail
-use Rattle.tool_files.specs.Parsed.{IsSource, SourceFails, IsImageFile, ImageFails, JobFails, image_of_words, IsMachine, MachineFails}
-use Rattle.tool_files.specs.Course.{Step, opens, refuses, gives}
-use Rattle.tool_files.specs.Ordered.{Helds, last, next_file, next_checked, next_source, next_image, next_program, next_programs, next_planned, next_job, IsNext}
+use Rattle.tool_files.specs.Parsed.{IsSource, SourceFails, IsImageFile, ImageFails, JobFails, image_of_words, IsMachine, MachineFails, IsScript, ScriptFails}
+use Rattle.tool_files.specs.Course.{Step, opens, refuses, gives, keeps_nothing, keeps_actions, actions_text}
+use Rattle.tool_files.specs.Ordered.{Helds, last, next_file, next_checked, next_source, next_image, next_program, next_programs, next_script, next_planned, next_job, IsNext}
 use Rattle.tool_files.specs.Laws.{OneNext, SomeFirst, SomeNext}
-use Rattle.tool_files.proofs.Settled.{Settled, Decided, source_settled, image_settled, plan_settled, machine_settled, source_decided, image_decided, plan_decided, machine_decided}
+use Rattle.tool_files.proofs.Settled.{Settled, Decided, source_settled, image_settled, script_settled, plan_settled, machine_settled, source_decided, image_decided, script_decided, plan_decided, machine_decided}
 
 -- ---- one thing comes
 
@@ -60,6 +64,9 @@ module _ {V : Type 0} where
   image_only : (contents : Option Contents) (place : Place) (name : List ℕ) (then : ImageValue → Helds → Step V → Type 0) → ((i : ImageValue) → Only (then i)) → Only (next_image contents place name then)
   image_only contents place name then = kind_only contents place name IsImageFile ImageFails then image_settled
 
+  script_only : (contents : Option Contents) (name : List ℕ) (shape : Geometry) (then : List Command → Helds → Step V → Type 0) → ((c : List Command) → Only (then c)) → Only (next_script contents name shape then)
+  script_only contents name shape then = kind_only contents Script name (IsScript shape) (ScriptFails shape) then (script_settled shape)
+
   program_only : (contents : Option Contents) (core : ℕ) (given : Program) (then : ImageValue → Helds → Step V → Type 0) → ((i : ImageValue) → Only (then i)) → Only (next_program contents core given then)
   program_only contents core (Words words) then only = only (image_of_words words)
   program_only contents core (Asm name) then only = source_only contents (Core core) name then only
@@ -70,18 +77,26 @@ module _ {V : Type 0} where
   programs_only contents core (g ∷ given) images then only =
       program_only contents core g (λ i. next_programs contents (core + 1) given (images ++ i ∷ []) then) (λ i. programs_only contents (core + 1) given (images ++ i ∷ []) then only)
 
+  planned_only : (contents : Option Contents) (keep : Keep) (plan : JobPlan) (then : JobValue → Helds → Step V → Type 0) → ((j : JobValue) → Only (then j)) → Only (next_planned contents keep then plan)
+  planned_only contents keep plan then only = programs_only contents 0 plan.programs [] (λ images. next_checked Input (IsMachine keep plan.shape images) (MachineFails keep plan.shape images) then)
+      (λ images. checked_only Input (IsMachine keep plan.shape images) (MachineFails keep plan.shape images) then (machine_settled keep plan.shape images) only)
+
   job_only : (contents : Option Contents) (keep : Keep) (name : List ℕ) (then : JobValue → Helds → Step V → Type 0) → ((j : JobValue) → Only (then j)) → Only (next_job contents keep name then)
-  job_only contents keep name then only = kind_only contents Input name IsPlanOf JobFails (next_planned contents keep then) plan_settled
-      (λ plan. programs_only contents 0 plan.programs [] (λ images. next_checked Input (IsMachine keep plan.shape images) (MachineFails keep plan.shape images) then)
-      (λ images. checked_only Input (IsMachine keep plan.shape images) (MachineFails keep plan.shape images) then (machine_settled keep plan.shape images) only))
+  job_only contents keep name then only = kind_only contents Input name IsPlanOf JobFails (next_planned contents keep then) plan_settled (λ plan. planned_only contents keep plan then only)
 
 -- a row a command
 pub one_next : OneNext
 one_next contents (run keep name) = job_only contents keep name (λ j. last (listing_of j keep)) (λ j. last_only (listing_of j keep))
 one_next contents (sim workers keep name) = job_only contents keep name (λ j. last (listing_of j keep)) (λ j. last_only (listing_of j keep))
+one_next contents (trace name) = job_only contents keeps_actions name (λ j. last (actions_text j)) (λ j. last_only (actions_text j))
 one_next contents (asm name) = source_only contents Input name (λ i. last (image_bytes i)) (λ i. last_only (image_bytes i))
 one_next contents (dis name) = image_only contents Input name (λ i. last (listing_text i)) (λ i. last_only (listing_text i))
 one_next contents (image name) = image_only contents Input name (λ i. last (image_bytes i)) (λ i. last_only (image_bytes i))
+one_next contents (gen seed cores slots false) = last_only (plan_text (generated seed cores slots))
+one_next contents (gen seed cores slots true) = planned_only contents keeps_nothing (generated seed cores slots) (λ j. last (summary_of j)) (λ j. last_only (summary_of j))
+one_next contents (debug job script) =
+    job_only contents keeps_nothing job (λ j. next_script contents script j.shape (λ commands. last (output_of j commands)))
+    (λ j. script_only contents script j.shape (λ commands. last (output_of j commands)) (λ commands. last_only (output_of j commands)))
 
 -- ---- something comes
 
@@ -142,6 +157,9 @@ module _ {V : Type 0} where
   image_whole : (place : Place) (name : List ℕ) (then : ImageValue → Helds → Step V → Type 0) → ((i : ImageValue) → Whole (then i)) → Whole (next_image None place name then)
   image_whole place name then whole = kind_whole place name IsImageFile ImageFails then image_decided (λ held i is. whole i)
 
+  script_whole : (name : List ℕ) (shape : Geometry) (then : List Command → Helds → Step V → Type 0) → ((c : List Command) → Whole (then c)) → Whole (next_script None name shape then)
+  script_whole name shape then whole = kind_whole Script name (IsScript shape) (ScriptFails shape) then (λ held bytes. script_decided shape held) (λ held c is. whole c)
+
   program_whole : (core : ℕ) (given : Program) (then : ImageValue → Helds → Step V → Type 0) → ((i : ImageValue) → Whole (then i)) → Whole (next_program None core given then)
   program_whole core (Words words) then whole = whole (image_of_words words)
   program_whole core (Asm name) then whole = source_whole (Core core) name then whole
@@ -159,17 +177,25 @@ module _ {V : Type 0} where
     goes_on = checked_on Input (IsMachine keep plan.shape images) (MachineFails keep plan.shape images) then (λ j made. (whole j).goes_on);
   }
 
+  planned_whole : (keep : Keep) (plan : JobPlan) (then : JobValue → Helds → Step V → Type 0) → ((j : JobValue) → Whole (then j)) → Whole (next_planned None keep then plan)
+  planned_whole keep plan then whole = programs_whole 0 plan.programs [] (λ images. next_checked Input (IsMachine keep plan.shape images) (MachineFails keep plan.shape images) then) (machine_whole keep plan then whole)
+
   job_whole : (keep : Keep) (name : List ℕ) (then : JobValue → Helds → Step V → Type 0) → ((j : JobValue) → Whole (then j)) → Whole (next_job None keep name then)
-  job_whole keep name then whole = kind_whole Input name IsPlanOf JobFails (next_planned None keep then) (λ held bytes. plan_decided held)
-      (λ held plan is. programs_whole 0 plan.programs [] (λ images. next_checked Input (IsMachine keep plan.shape images) (MachineFails keep plan.shape images) then) (machine_whole keep plan then whole))
+  job_whole keep name then whole = kind_whole Input name IsPlanOf JobFails (next_planned None keep then) (λ held bytes. plan_decided held) (λ held plan is. planned_whole keep plan then whole)
 
 -- a row a command
 whole_for : (asked : AskedValue) → Whole (IsNext None asked)
 whole_for (run keep name) = job_whole keep name (λ j. last (listing_of j keep)) (λ j. last_whole (listing_of j keep))
 whole_for (sim workers keep name) = job_whole keep name (λ j. last (listing_of j keep)) (λ j. last_whole (listing_of j keep))
+whole_for (trace name) = job_whole keeps_actions name (λ j. last (actions_text j)) (λ j. last_whole (actions_text j))
 whole_for (asm name) = source_whole Input name (λ i. last (image_bytes i)) (λ i. last_whole (image_bytes i))
 whole_for (dis name) = image_whole Input name (λ i. last (listing_text i)) (λ i. last_whole (listing_text i))
 whole_for (image name) = image_whole Input name (λ i. last (image_bytes i)) (λ i. last_whole (image_bytes i))
+whole_for (gen seed cores slots false) = last_whole (plan_text (generated seed cores slots))
+whole_for (gen seed cores slots true) = planned_whole keeps_nothing (generated seed cores slots) (λ j. last (summary_of j)) (λ j. last_whole (summary_of j))
+whole_for (debug job script) =
+    job_whole keeps_nothing job (λ j. next_script None script j.shape (λ commands. last (output_of j commands)))
+    (λ j. script_whole script j.shape (λ commands. last (output_of j commands)) (λ commands. last_whole (output_of j commands)))
 
 pub some_first : SomeFirst
 some_first asked = (whole_for asked).begins

@@ -3,7 +3,7 @@ use Rattle.std.proofs.Common.{◌≡◌, ◌∙◌, ◌⊎◌, inl, inr, ap, sym
 use Rattle.std.proofs.lemmas.Bool.{cases_lt}
 use Rattle.std.proofs.lemmas.Str.{IsUtf8-from_is_utf8, is_utf8-from_IsUtf8}
 use Rattle.std.specs.List.{All}
-use Rattle.std.specs.Prelude.{Option, Some, None, unwrap_or}
+use Rattle.std.specs.Prelude.{Option, Some, None, Result, Ok, Err, unwrap_or}
 use Rattle.std.specs.Str.{IsUtf8, is_utf8}
 use Rattle.pmsi_model.specs.declared.job.Geometry.{Geometry}
 use Rattle.pmsi_model.specs.declared.limits.TheConstants.{MAX_TOUCHES}
@@ -38,7 +38,10 @@ use Rattle.tool_files.specs.declared.refusal.Place.{Place}
 use Rattle.tool_files.specs.declared.refusal.Place.TheVariants.{Input, Core}
 use Rattle.tool_files.specs.declared.refusal.Detail.{Detail}
 use Rattle.tool_files.specs.declared.refusal.Detail.TheVariants as detail
-use Rattle.tool_files.specs.Parsed.{IsSource, SourceFails, IsImageFile, ImageFails, JobFails, image_of_words, IsMachine, MachineFails}
+use Rattle.script_text.specs.declared.command.Command.{Command}
+use Rattle.script_text.specs.declared.fault.ScriptFault.{ScriptFault}
+use Rattle.script_text.specs.Script.{script_of}
+use Rattle.tool_files.specs.Parsed.{IsSource, SourceFails, IsImageFile, ImageFails, JobFails, image_of_words, IsMachine, MachineFails, IsScript, ScriptFails}
 
 no_both : (b : Bool) → b ≡ true → b ≡ false → ⊥
 no_both true yes_ no_ = absurd (cc)
@@ -120,6 +123,28 @@ image_decided held bytes = go (image_or_not held bytes)
     go : ((i : ImageValue) × IsImageFile held i) ⊎ ((fault : ImageFault) × HasFault held fault) → Decided (IsImageFile held) (ImageFails held)
     go (inl is) = inl is
     go (inr (fault, fails)) = inr (detail.Image fault, fails)
+
+-- ---- a script
+
+module _ (shape : Geometry) (held : List ℕ) where
+  script_detail : (d e : Detail) → ScriptFails shape held d → ScriptFails shape held e → d ≡ e
+  script_detail (detail.Script fault) (detail.Script other) f g = cc
+  script_detail (detail.Script fault) e f g = absurd g
+  script_detail d e f g = absurd f
+
+  script_apart : (commands : List Command) (d : Detail) → IsScript shape held commands → ScriptFails shape held d → ⊥
+  script_apart commands (detail.Script fault) is f = absurd (cc)
+  script_apart commands d is f = f
+
+  pub script_settled : Settled (IsScript shape held) (ScriptFails shape held)
+  script_settled = record { one_value = λ commands other a b. cc; one_detail = script_detail; not_both = script_apart }
+
+  pub script_decided : Decided (IsScript shape held) (ScriptFails shape held)
+  script_decided = go (script_of shape held) refl
+    where
+      go : (r : Result (List Command) ScriptFault) → script_of shape held ≡ r → Decided (IsScript shape held) (ScriptFails shape held)
+      go (Ok commands) is = inl (commands, is)
+      go (Err fault) is = inr (detail.Script fault, is)
 
 -- ---- a plan
 

@@ -1,25 +1,29 @@
 -- The same by the bytes of the files that were read, in the order of opening: which name is opened next, which result comes, or
 -- which refusal.
-use Rattle.std.specs.Prelude.{◌≡◌, ◌⊎◌, ℕ, ◌+◌, ◌<◌, ◌≤◌, List, [], ◌∷◌, ◌++◌, length, Option, None, ⊤}
+use Rattle.std.specs.Prelude.{◌≡◌, ◌⊎◌, ℕ, ◌+◌, ◌<◌, ◌≤◌, List, [], ◌∷◌, ◌++◌, length, Bool, true, false, Option, None, ⊤}
 use Rattle.pmsi_model.specs.declared.Keep.{Keep}
 use Rattle.pmsi_model.specs.declared.limits.TheConstants.{MAX_FILE_BYTES}
+use Rattle.pmsi_model.specs.declared.job.Geometry.{Geometry}
 use Rattle.pmsi_model.specs.Image.{ImageValue}
 use Rattle.pmsi_model.specs.Job.{JobValue}
-use Rattle.pmsi_model.specs.Listing.{listing_of}
+use Rattle.pmsi_model.specs.Listing.{listing_of, summary_of}
 use Rattle.pmsi_outside.specs.Files.{Contents}
 use Rattle.asm_print.specs.ListingText.{listing_text}
 use Rattle.image_file.specs.Format.{image_bytes}
 use Rattle.job_text.specs.declared.plan.JobPlan.{JobPlan}
 use Rattle.job_text.specs.declared.plan.Program.{Program}
 use Rattle.job_text.specs.declared.plan.Program.TheVariants.{Words, Asm, Image}
-use Rattle.job_text.specs.Plans.{IsPlanOf}
-use Rattle.tool_words.specs.Meaning.{AskedValue, run, sim, asm, dis, image}
+use Rattle.job_text.specs.Plans.{IsPlanOf, plan_text}
+use Rattle.job_text.specs.Generating.{generated}
+use Rattle.script_text.specs.declared.command.Command.{Command}
+use Rattle.script_text.specs.Output.{output_of}
+use Rattle.tool_words.specs.Meaning.{AskedValue, run, sim, trace, asm, dis, image, gen, debug}
 use Rattle.tool_files.specs.declared.refusal.Place.{Place}
-use Rattle.tool_files.specs.declared.refusal.Place.TheVariants.{Input, Core}
+use Rattle.tool_files.specs.declared.refusal.Place.TheVariants.{Input, Core, Script}
 use Rattle.tool_files.specs.declared.refusal.Detail.{Detail}
 use Rattle.tool_files.specs.declared.refusal.Detail.TheVariants.{Large}
-use Rattle.tool_files.specs.Parsed.{IsSource, SourceFails, IsImageFile, ImageFails, JobFails, image_of_words, IsMachine, MachineFails}
-use Rattle.tool_files.specs.Course.{Step, opens, refuses, gives, Reads}
+use Rattle.tool_files.specs.Parsed.{IsSource, SourceFails, IsImageFile, ImageFails, JobFails, image_of_words, IsMachine, MachineFails, IsScript, ScriptFails}
+use Rattle.tool_files.specs.Course.{Step, opens, refuses, gives, Reads, keeps_nothing, keeps_actions, actions_text}
 
 -- the bytes of files, in the order in which these were opened
 abbrev pub Helds : Type 0
@@ -66,15 +70,25 @@ abbrev pub next_job : {V : Type 0} → Option Contents → Keep → List ℕ →
 next_job contents keep name then =
     next_file contents Input name (λ held. next_checked Input (IsPlanOf held) (JobFails held) (next_planned contents keep then))
 
+abbrev pub next_script : {V : Type 0} → Option Contents → List ℕ → Geometry → (List Command → Helds → Step V → Type 0) → Helds → Step V → Type 0
+next_script contents name shape then = next_file contents Script name (λ held. next_checked Script (IsScript shape held) (ScriptFails shape held) then)
+
+abbrev pub next_made : Option Contents → Bool → JobPlan → Helds → Step (List ℕ) → Type 0
+next_made contents false plan = last (plan_text plan)
+next_made contents true plan = next_planned contents keeps_nothing (λ j. last (summary_of j)) plan
+
 -- ---- commands, a row each
 
 -- files of these contents, read in the order of opening, gave these bytes, and then this comes
 abbrev pub IsNext : Option Contents → AskedValue → Helds → Step (List ℕ) → Type 0
 IsNext contents (run keep name) = next_job contents keep name (λ j. last (listing_of j keep))
 IsNext contents (sim workers keep name) = next_job contents keep name (λ j. last (listing_of j keep))
+IsNext contents (trace name) = next_job contents keeps_actions name (λ j. last (actions_text j))
 IsNext contents (asm name) = next_source contents Input name (λ i. last (image_bytes i))
 IsNext contents (dis name) = next_image contents Input name (λ i. last (listing_text i))
 IsNext contents (image name) = next_image contents Input name (λ i. last (image_bytes i))
+IsNext contents (gen seed cores slots runs) = next_made contents runs (generated seed cores slots)
+IsNext contents (debug job script) = next_job contents keeps_nothing job (λ j. next_script contents script j.shape (λ commands. last (output_of j commands)))
 
 -- ---- by the bytes alone
 

@@ -1,5 +1,5 @@
 -- What the bytes of a file are taken for, and why they are refused.
-use Rattle.std.specs.Prelude.{◌≡◌, ◌⊎◌, ℕ, List, []}
+use Rattle.std.specs.Prelude.{◌≡◌, ◌⊎◌, ℕ, List, [], Ok, Err}
 use Rattle.std.specs.Str.{IsUtf8}
 use Rattle.pmsi_model.specs.declared.job.Geometry.{Geometry}
 use Rattle.pmsi_model.specs.declared.Keep.{Keep}
@@ -15,6 +15,8 @@ use Rattle.image_file.specs.Checks.{HasFault}
 use Rattle.job_text.specs.declared.job_fault.JobFault.{JobFault}
 use Rattle.job_text.specs.Plans.{HasJobFault}
 use Rattle.job_text.specs.Joining.{IsJoined, HasJoinFault}
+use Rattle.script_text.specs.declared.command.Command.{Command}
+use Rattle.script_text.specs.Script.{script_of}
 use Rattle.tool_files.specs.declared.refusal.Detail.{Detail}
 use Rattle.tool_files.specs.declared.refusal.Detail.TheVariants as detail
 
@@ -38,6 +40,16 @@ IsImageFile held image = IsBytesOf image held
 abbrev pub ImageFails : List ℕ → Detail → Type 0
 ImageFails held (detail.Image fault) = HasFault held fault
 ImageFails held other = ⊥
+
+-- ---- a script
+
+-- the bytes are a script of these commands, for a machine of the shape
+abbrev pub IsScript : Geometry → List ℕ → List Command → Type 0
+IsScript shape held commands = script_of shape held ≡ Ok commands
+
+abbrev pub ScriptFails : Geometry → List ℕ → Detail → Type 0
+ScriptFails shape held (detail.Script fault) = script_of shape held ≡ Err fault
+ScriptFails shape held other = ⊥
 
 -- ---- a job
 

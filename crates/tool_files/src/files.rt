@@ -1,12 +1,13 @@
 //! Reading the files of a command, in order.
-ghost use Rattle.std.specs.Prelude.{◌≡◌, ◌≢◌, ℕ, ◌≤◌, [], length, IfOk, IfErr};
+ghost use Rattle.std.specs.Prelude.{◌≡◌, ◌≢◌, ℕ, ◌≤◌, [], length, true, IfOk, IfErr};
 ghost use Rattle.pmsi_model.specs.declared.limits.TheConstants.{MAX_CORES, MAX_FILE_BYTES, MAX_TEXT_WORDS};
 ghost use Rattle.pmsi_model.specs.Geometry.{CanKeep, IsGeometry, most_touches};
 ghost use Rattle.std.specs.List.{All};
 ghost use Rattle.job_text.specs.Plans.{HasFewWords, IsPlan, IsPlanOf};
-ghost use Rattle.tool_files.specs.declared.refusal.Place.TheVariants.{Input, Core};
-ghost use Rattle.tool_files.specs.Course.{ends, file, gives, image_file, job_file, plan_file, program, programs, source_file};
-ghost use Rattle.tool_files.specs.Parsed.{ImageFails, IsImageFile, IsMachine, IsSource, JobFails, MachineFails, SourceFails, image_of_words};
+ghost use Rattle.script_text.specs.Script.{is_in_range};
+ghost use Rattle.tool_files.specs.declared.refusal.Place.TheVariants.{Input, Core, Script};
+ghost use Rattle.tool_files.specs.Course.{ends, file, gives, image_file, job_file, plan_file, planned, program, programs, script_file, source_file};
+ghost use Rattle.tool_files.specs.Parsed.{ImageFails, IsImageFile, IsMachine, IsScript, IsSource, JobFails, MachineFails, ScriptFails, SourceFails, image_of_words};
 ghost use Rattle.tool_files.specs.Stops.{Stops, StopsAt, files_call};
 
 use crate::refusal::{Detail, Place, Stop};
@@ -17,6 +18,7 @@ use job_text::{JobFault, JobPlan, Program, join_job, read_plan};
 use pmsi_model::limits::MAX_TOUCHES;
 use pmsi_model::{Geometry, Image, Job, Keep, Pieces, Words};
 use pmsi_outside::{Files, ReadAll, read_whole};
+use script_text::{Command, ScriptFault, read_script};
 use std::alloc::Global;
 use std::str::from_utf8;
 
@@ -83,6 +85,21 @@ fn job_stop(fault: JobFault) -> Stop
     }
 }
 
+/// The commands of the script that these bytes are, for a machine of this shape.
+fn commands_of(alloc: Global, bytes: &[u8], shape: &Geometry) -> Result<Vec<Command>, Stop>
+    requires shape { IsGeometry shape.now }
+    requires length { length bytes.now ≤ MAX_FILE_BYTES }
+    ensures value { IfOk result (λ commands. IsScript shape.now bytes.now commands.items) }
+    ensures range { IfOk result (λ commands. All (λ command. is_in_range shape.now command ≡ true) commands.items) }
+    ensures stop { IfErr result (StopsAt Script (ScriptFails shape.now bytes.now)) }
+{
+    match read_script(alloc, shape, bytes) {
+        Ok(commands) => Ok(commands),
+        Err(ScriptFault::NoMemory) => Err(Stop::NoMemory),
+        Err(fault) => Err(Stop::Refused(Place::Script, Detail::Script(fault))),
+    }
+}
+
 /// The plan that these bytes are the text of.
 fn plan_of(alloc: Global, bytes: &[u8]) -> Result<JobPlan, Stop>
     requires { length bytes.now ≤ MAX_FILE_BYTES }
@@ -127,6 +144,25 @@ pub fn read_image_file<F: Files>(
 {
     let bytes = read_named(alloc, files, place, name)?;
     Ok(image_of(alloc, &bytes, place)?)
+}
+
+/// The commands of a script, for a machine of this shape.
+pub fn read_script_file<F: Files>(
+    alloc: Global,
+    files: &mut F,
+    shape: &Geometry,
+    name: &str,
+) -> Result<Vec<Command>, Stop>
+    requires { IsGeometry shape.now }
+    ensures value { IfOk result (λ commands. script_file (F.contents files.old) name.now shape.now ends (gives commands.items)) }
+    ensures range { IfOk result (λ commands. All (λ command. is_in_range shape.now command ≡ true) commands.items) }
+    ensures stop { IfErr result (Stops (script_file (F.contents files.old) name.now shape.now ends)
+        (files_call (F.contents files.old) (F.faults files.old) (F.faults files.new) (F.blamed files.new))) }
+    ensures later { F.faults files.old ≤ F.faults files.new }
+    ensures contents { F.contents files.new ≡ F.contents files.old }
+{
+    let bytes = read_named(alloc, files, Place::Script, name)?;
+    Ok(commands_of(alloc, &bytes, shape)?)
 }
 
 /// The image of a program that is given as words.
@@ -225,6 +261,25 @@ fn machine_of(alloc: Global, keep: Keep, shape: Geometry, images: &[Image]) -> R
     Ok(job)
 }
 
+/// The job of a plan, of whose run so much is to be kept.
+pub fn read_planned<F: Files>(
+    alloc: Global,
+    files: &mut F,
+    keep: Keep,
+    plan: &JobPlan,
+) -> Result<Job, Stop>
+    requires { IsPlan plan.now }
+    ensures value { IfOk result (λ job. planned (F.contents files.old) keep ends plan.now (gives job)) }
+    ensures kept { IfOk result (λ job. CanKeep keep job.shape) }
+    ensures stop { IfErr result (Stops (planned (F.contents files.old) keep ends plan.now)
+        (files_call (F.contents files.old) (F.faults files.old) (F.faults files.new) (F.blamed files.new))) }
+    ensures later { F.faults files.old ≤ F.faults files.new }
+    ensures contents { F.contents files.new ≡ F.contents files.old }
+{
+    let images = read_programs(alloc, files, plan.programs.as_slice())?;
+    Ok(machine_of(alloc, keep, plan.shape, &images)?)
+}
+
 /// A job, of whose run so much is to be kept.
 pub fn read_job<F: Files>(alloc: Global, files: &mut F, keep: Keep, name: &str) -> Result<Job, Stop>
     ensures value { IfOk result (λ job. job_file (F.contents files.old) keep name.now ends (gives job)) }
@@ -235,6 +290,5 @@ pub fn read_job<F: Files>(alloc: Global, files: &mut F, keep: Keep, name: &str) 
     ensures contents { F.contents files.new ≡ F.contents files.old }
 {
     let plan = read_plan_file(alloc, files, name)?;
-    let images = read_programs(alloc, files, plan.programs.as_slice())?;
-    Ok(machine_of(alloc, keep, plan.shape, &images)?)
+    Ok(read_planned(alloc, files, keep, &plan)?)
 }

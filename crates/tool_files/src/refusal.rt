@@ -6,6 +6,7 @@ use asm_parse::AsmCause;
 use image_file::ImageFault;
 use job_text::JobFault;
 use pmsi_model::NoMemory;
+use script_text::ScriptFault;
 use std::alloc::AllocError;
 
 /// Which file is refused.
@@ -15,6 +16,8 @@ pub enum Place {
     Input,
     /// The file of a core's program.
     Core(u32),
+    /// The file of a script.
+    Script,
 }
 
 /// Why a file is refused.
@@ -32,6 +35,8 @@ pub enum Detail {
     Image(ImageFault),
     /// So many accesses are to be kept, which is more than `MAX_TOUCHES`.
     Touches(u64),
+    /// It is no script for its job: the first fault.
+    Script(ScriptFault),
 }
 
 /// Why a command came to no result.

@@ -3,7 +3,7 @@ use super::*;
 use examples::{EXAMPLES, TWO_WRITERS};
 use std::str::from_utf8;
 
-mod examples;
+pub(super) mod examples;
 mod threads;
 
 /// The shape of a small machine, and four slots.
@@ -138,10 +138,10 @@ loop:   amoadd.w zero, t1, (t2)
 ";
 
 /// The programs of four cores.
-const LOCKING: [&str; 4] = [PRODUCER, CONSUMER, COUNTER, COUNTER];
+pub(super) const LOCKING: [&str; 4] = [PRODUCER, CONSUMER, COUNTER, COUNTER];
 
 /// The shape of the machine of `PRODUCER`, `CONSUMER` and two times `COUNTER`.
-const LOCKS: &str = "quantum 8\nline 8\nsets 64\nways 4\nmemory 65536\nslots 20000";
+pub(super) const LOCKS: &str = "quantum 8\nline 8\nsets 64\nways 4\nmemory 65536\nslots 20000";
 
 /// The lines of its flat memory: the last number, 20, and the count, 40.
 const LOCKS_MEMORY: [&str; 2] = [
@@ -150,7 +150,7 @@ const LOCKS_MEMORY: [&str; 2] = [
 ];
 
 /// Whether a listing has this line.
-fn has_line(listing: &str, line: &str) -> bool {
+pub(super) fn has_line(listing: &str, line: &str) -> bool {
     for each in listing.lines() {
         if each == line {
             return true;
@@ -170,7 +170,7 @@ fn has_line_with(listing: &str, begins: &str, ends: &str) -> bool {
 }
 
 /// The listing that a call wrote.
-fn listing_of<'a>(rt: &impl Abort, ran: &'a Ran) -> &'a str {
+pub(super) fn listing_of<'a>(rt: &impl Abort, ran: &'a Ran) -> &'a str {
     assert_eq!(rt; ran.status, ToolStatus::Done);
     assert!(rt; ran.err.bytes().is_empty());
     let Ok(listing) = from_utf8(ran.out.bytes()) else {

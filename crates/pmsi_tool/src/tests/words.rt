@@ -11,7 +11,7 @@ const NO_COMMANDS: &[&[&str]] = &[
     &["fly", "a.job"],
     &["sim", "a.job"],
     &["sim", "--workers", "0", "a.job"],
-    &["trace", "a.job"],
+    &["trace", "--touches", "yes", "a.job"],
     &["asm"],
     &["dis"],
     &["image"],
