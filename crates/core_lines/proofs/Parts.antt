@@ -1,8 +1,8 @@
 -- The parts of lines.
-use Rattle.std.proofs.Common.{◌≡◌, ℕ, zero, suc, ◌+◌, ◌<◌, ◌≤◌, List, [], ◌∷◌, ◌++◌, length, take, get_or, codes, refl, sym, ap, ◌∙◌, append_assoc, add-one}
-use Rattle.std.specs.List.{flat_map, slice_get}
-use Rattle.std.specs.Option.{option_to_list}
-use Rattle.std.proofs.lemmas.List.{take_all}
+use Rattle.std.proofs.Common.{◌≡◌, ℕ, ◌+◌, ◌<◌, ◌≤◌, List, [], ◌∷◌, ◌++◌, length, take, get_or, codes, refl, sym, ap, ◌∙◌, append_assoc, add-one}
+use Rattle.std.specs.List.{flat_map}
+use Rattle.std.proofs.Math.Seq.{take-suc}
+use Rattle.std.proofs.lemmas.List.{take_all, append-nil}
 use Rattle.std.proofs.lemmas.List.Concat.{flat_map-append}
 use Rattle.pmsi_model.specs.declared.Mode.{Mode}
 use Rattle.pmsi_model.specs.Lines.{held_text, held_line, reg_texts}
@@ -21,20 +21,16 @@ regs_further = further reg_texts reg_text by_numbers
 
 -- ---- held lines
 
-next_held : (held : List (ℕ × Mode)) (k : ℕ) → take (suc k) held ≡ take k held ++ option_to_list (slice_get held k)
-next_held [] zero = refl
-next_held [] (suc k) = refl
-next_held (h ∷ held) zero = refl
-next_held (h ∷ held) (suc k) = ap (λ (hs : List (ℕ × Mode)). h ∷ hs) (next_held held k)
-
 -- the held lines before place k, and then the one there
-pub held_further : (start before after : List ℕ) (held : List (ℕ × Mode)) (k : ℕ) → before ≡ start ++ flat_map held_text (take k held) → after ≡ before ++ flat_map held_text (option_to_list (slice_get held k)) →
-    after ≡ start ++ flat_map held_text (take (k + 1) held)
-held_further start before after held k h g =
-    let more : List (ℕ × Mode) = option_to_list (slice_get held k) in
-    let next : take (k + 1) held ≡ take k held ++ more = rw add-one (next_held held k) in
-    g ∙ ap (λ (text : List ℕ). text ++ flat_map held_text more) h ∙ append_assoc start (flat_map held_text (take k held)) (flat_map held_text more)
-    ∙ ap (λ (text : List ℕ). start ++ text) (sym (flat_map-append held_text (take k held) more) ∙ ap (λ (hs : List (ℕ × Mode)). flat_map held_text hs) (sym next))
+pub held_further : (start before after : List ℕ) (held : List (ℕ × Mode)) (k : ℕ) (d : ℕ × Mode) → k < length held
+    → before ≡ start ++ flat_map held_text (take k held) → after ≡ before ++ held_text (get_or held k d) → after ≡ start ++ flat_map held_text (take (k + 1) held)
+held_further start before after held k d less so more =
+    let h : ℕ × Mode = get_or held k d in
+    let next : take (k + 1) held ≡ take k held ++ h ∷ [] = rw add-one (take-suc held k d less) in
+    let one : flat_map held_text (h ∷ []) ≡ held_text h = append-nil (held_text h) in
+    let texts : flat_map held_text (take (k + 1) held) ≡ flat_map held_text (take k held) ++ held_text h =
+    ap (λ (hs : List (ℕ × Mode)). flat_map held_text hs) next ∙ flat_map-append held_text (take k held) (h ∷ []) ∙ ap (λ (text : List ℕ). flat_map held_text (take k held) ++ text) one in
+    more ∙ ap (λ (text : List ℕ). text ++ held_text h) so ∙ append_assoc start (flat_map held_text (take k held)) (held_text h) ∙ ap (λ (text : List ℕ). start ++ text) (sym texts)
 
 -- all of them
 pub held_whole : (old start before : List ℕ) (held : List (ℕ × Mode)) (k : ℕ) → length held ≤ k → start ≡ old ++ codes "held" → before ≡ start ++ flat_map held_text (take k held) → before ++ codes "\n" ≡ old ++ held_line held

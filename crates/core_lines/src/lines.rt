@@ -1,7 +1,5 @@
 //! The three lines of a core.
-ghost use Rattle.std.specs.Prelude.{◌≡◌, ℕ, ◌++◌, codes, slice_get, OnOk};
-ghost use Rattle.std.specs.List.{flat_map};
-ghost use Rattle.std.specs.Option.{option_to_list};
+ghost use Rattle.std.specs.Prelude.{◌≡◌, ℕ, ◌++◌, codes, OnOk};
 ghost use Rattle.pmsi_model.specs.Lines.{halt_text, status_text, core_line, regs_line, mode_text, held_text, held_line};
 ghost use Rattle.cache_array.specs.Cache.{held_of};
 ghost use Rattle.core_lines.specs.Regs.{reg_text};
@@ -93,23 +91,13 @@ fn push_held(out: &mut Vec<u8>, line: u32, mode: Mode) -> Result<(), AllocError>
     push_text(out, mode_name(mode))
 }
 
-/// Appends the line at a place of a cache, if there is one.
-fn push_held_at(out: &mut Vec<u8>, cache: &CacheArray, place: u32) -> Result<(), AllocError>
-    ensures { OnOk result (out.new.items ≡ out.old.items ++ flat_map held_text (option_to_list (slice_get (held_of cache.now.lines) place))) }
-{
-    match cache.held(place) {
-        Some((line, mode)) => push_held(out, line, mode),
-        None => Ok(()),
-    }
-}
-
 /// Appends the third line of a core: the lines that its cache holds, the most recently used first.
 pub fn push_held_line(out: &mut Vec<u8>, cache: &CacheArray) -> Result<(), AllocError>
     ensures { OnOk result (out.new.items ≡ out.old.items ++ held_line (held_of cache.now.lines)) }
 {
     push_text(out, "held")?;
-    for place in 0..cache.held_count() {
-        push_held_at(out, cache, place)?;
+    for held in &cache.held_lines(*out.allocator())? {
+        push_held(out, held.0, held.1)?;
     }
     push_newline(out)
 }
