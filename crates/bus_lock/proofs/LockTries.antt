@@ -7,6 +7,7 @@ use lib.ListN.{get_elem?}
 use lib.Seq.{set-get_or}
 use Rattle.atomic_table.specs.Table.{State, Me, Step, step, keeps, takes, stepped, Allows, rest, Act, Valid, carried_after}
 use Rattle.atomic_table.proofs.Lists.{set_here, set_else}
+use Rattle.pmsi_model.specs.declared.limits.TheConstants.{MAX_SLOTS}
 use Rattle.pmsi_model.specs.Job.{JobValue}
 use Rattle.pmsi_model.specs.Shared.{BusSide}
 use Rattle.pmsi_model.specs.Spreads.{Fits}
@@ -40,8 +41,8 @@ module _ (job : JobValue) (keep : Bool) where
     mine : Knows job keep r.turn r.made r.joined me.0
     mine = r.each id me.0 at rests.1
 
-    few : r.turn ≤ 1000000
-    few = let ok : job.shape.slots ≤ 1000000 = r.within.shape.slots in let in_range : r.turn ≤ job.shape.slots = r.turn_within in omega arith
+    few : r.turn ≤ MAX_SLOTS
+    few = let ok : job.shape.slots ≤ MAX_SLOTS = r.within.shape.slots in let in_range : r.turn ≤ job.shape.slots = r.turn_within in omega arith
 
     tries_odd : r.held ≡ true → Next s (bit_or (slice_index s.words 0) 1) id me (tried (step 1 0 1 0 none) me)
     tries_odd odd =

@@ -4,6 +4,7 @@ use Rattle.std.specs.Prelude.{◌≡◌, ◌≢◌, ◌⊎◌, ℕ, ◌+◌, ◌
 use mathlib.Core.Option.{some, none}
 use lib.ListN.{get_elem?}
 use Rattle.atomic_table.specs.Table.{State, Me, Step, rest}
+use Rattle.pmsi_model.specs.declared.limits.TheConstants.{MAX_SLOTS}
 use Rattle.pmsi_model.specs.Job.{JobValue, IsJob}
 use Rattle.pmsi_model.specs.Shared.{BusSide}
 use Rattle.pmsi_model.specs.Parts.{IsBusPart}
@@ -128,7 +129,7 @@ pub record HasTaken (m : Hand) (found : ℕ) (m' : Hand) (turn : ℕ) (b : BusSi
 
 -- a try: the lock was held, or the seat has it
 abbrev pub tried : Step Slot → Hand → ℕ → Hand → Type 0
-tried st m found m' = (turn : ℕ) × (turn ≤ 1000000)
+tried st m found m' = (turn : ℕ) × (turn ≤ MAX_SLOTS)
     × (((found ≡ 2 * turn + 1) × (m' ≡ (missed m.0 found, m.1)))
     ⊎ ((b : BusSide) × HasTaken m found m' turn b))
 
