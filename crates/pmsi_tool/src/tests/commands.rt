@@ -100,7 +100,8 @@ fn refuses_scripts(rt: HostRuntime) -> Result<(), Fail> {
         &["debug", "a.dbg", "none"],
         with_script(alloc, b"fly")?,
     )?;
-    refused(&rt, alloc, &ran, "input: line 1: version")
+    refused(&rt, alloc, &ran, "input: line 1: version")?;
+    Ok(())
 }
 
 const MADE: &str = "pmsi 1

@@ -3,11 +3,11 @@ use super::{ADDED, ADDS};
 
 /// A job, by the lines of its shape and the sources of its cores, and what its run prints with the words given.
 #[derive(Clone, Copy)]
-pub(super) struct Example {
-    pub(super) heads: &'static str,
-    pub(super) sources: &'static [&'static str],
-    pub(super) words: &'static [&'static str],
-    pub(super) listing: &'static str,
+pub(crate) struct Example {
+    pub(crate) heads: &'static str,
+    pub(crate) sources: &'static [&'static str],
+    pub(crate) words: &'static [&'static str],
+    pub(crate) listing: &'static str,
 }
 
 /// Neither actions nor accesses are printed.
@@ -65,7 +65,7 @@ end
 };
 
 /// Two cores store to one line. Core 1 is halted in slot 2, and still writes the line back in slot 3.
-pub(super) const TWO_WRITERS: Example = Example {
+pub(crate) const TWO_WRITERS: Example = Example {
     heads: "quantum 1\nline 4\nsets 1\nways 1\nmemory 64\nslots 6",
     sources: &["addi x5, x0, 7\nsw x5, 0(x0)\necall\n"; 2],
     words: BOTH,
