@@ -20,7 +20,7 @@ use Rattle.pmsi_tool.specs.declared.complaint.Complaint.TheVariants.{Usage, Stop
 use Rattle.pmsi_tool.specs.declared.ToolStatus.{ToolStatus}
 use Rattle.pmsi_tool.specs.declared.ToolStatus.TheVariants as status
 use Rattle.pmsi_tool.specs.Calls.{Call, meaning_for, serves, where_served}
-use Rattle.pmsi_tool.specs.Answers.{ComplainsOn, IsFaithful, Gives, GivesText, Refuses, IsUnasked, IsUnread, Stands, StopsOn}
+use Rattle.pmsi_tool.specs.Answers.{ComplainsOn, IsFaithful, Gives, GivesText, Refuses, IsUnasked, Stands, StopsOn}
 use Rattle.pmsi_tool.specs.Lines.{refused_line}
 use Rattle.pmsi_tool.specs.Statuses.{SinkCall, GrowsBy, ErrFails, Holds, IsRefusal, IsTold, RefusesAlways, TakesAccepted, status_of}
 

@@ -16,7 +16,7 @@ use Rattle.script_text.specs.Output.{output_of}
 use Rattle.tool_words.specs.Meaning.{run, sim, trace, asm, dis, image, gen, debug}
 use Rattle.tool_files.specs.declared.refusal.Place.TheVariants.{Input, Script}
 use Rattle.tool_files.specs.declared.refusal.Stop.{Stop}
-use Rattle.tool_files.specs.Course.{Step, opens, refuses, gives, ends, job_file, source_file, image_file, script_file, planned, keeps_nothing, keeps_actions, actions_text}
+use Rattle.tool_files.specs.Course.{opens, refuses, gives, ends, job_file, source_file, image_file, script_file, planned, keeps_nothing, keeps_actions, actions_text}
 use Rattle.tool_files.specs.Parsed.{IsSource, SourceFails, IsImageFile, ImageFails, IsScript, ScriptFails}
 use Rattle.tool_files.specs.Stops.{Stops, files_call}
 use Rattle.tool_files.proofs.Exports.{job_on, kind_on, planned_on, stops_on}

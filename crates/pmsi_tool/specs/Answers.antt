@@ -15,7 +15,7 @@ use Rattle.tool_files.specs.declared.refusal.Detail.{Detail}
 use Rattle.tool_files.specs.declared.refusal.Place.{Place}
 use Rattle.tool_files.specs.declared.refusal.Stop.{Stop}
 use Rattle.tool_files.specs.declared.refusal.Stop.TheVariants.{ReadFault, Refused, NoMemory}
-use Rattle.tool_files.specs.Course.{Step, gives, ends, job_file, Comes}
+use Rattle.tool_files.specs.Course.{gives, ends, job_file, Comes}
 use Rattle.tool_files.specs.Ordered.{Helds, Follows, Opens, IsResultOf, IsRefused}
 use Rattle.tool_files.specs.Stops.{FilesCall, Stops}
 use Rattle.pmsi_tool.specs.declared.complaint.Complaint.{Complaint}

@@ -1,4 +1,4 @@
-use Rattle.std.proofs.Common.{inr, refl, subst, sym, map, string_bytes, Global, List, ℕ}
+use Rattle.std.proofs.Common.{inr, refl, subst, sym, map, string_bytes, Global}
 use Rattle.tool_files.specs.Stops.{files_call}
 use Rattle.pmsi_tool.specs.Calls.{threads_call}
 use Rattle.pmsi_tool.specs.Answers.{Gives}
