@@ -6,7 +6,5 @@ mod moves;
 mod printing;
 mod running;
 mod session;
-#[cfg(test)]
-mod tests;
 
 pub use running::{debug, run_script};
