@@ -1,0 +1,36 @@
+-- The states that a core keeps of its lines. A line with nothing on its way is in the stable state that its mode says; each
+-- line with a request or a write-back on its way stands in a list with its state.
+use Rattle.std.specs.Prelude.{ℕ, List, [], ◌∷◌, ◌++◌, Bool, true, false, not, ◌==◌, Option, Some, None, if◌then◌else◌}
+use Rattle.std.specs.List.{filter}
+use Rattle.pmsi_model.specs.declared.Mode.{Mode}
+use Rattle.pmsi_model.specs.declared.Mode.TheVariants.{Shared, Modified}
+use Rattle.pmsi_model.specs.declared.State.{State}
+use Rattle.pmsi_model.specs.declared.State.TheVariants.{I, S, M}
+use Rattle.cache_ctrl.specs.declared.states.LineState.{LineState}
+
+-- the states of a line with nothing on its way
+abbrev pub is_stable : State → Bool
+is_stable I = true
+is_stable S = true
+is_stable M = true
+is_stable state = false
+
+abbrev pub stable_of : Option Mode → State
+stable_of None = I
+stable_of (Some Shared) = S
+stable_of (Some Modified) = M
+
+-- the state of a line that is held in this mode
+abbrev pub state_at : ℕ → Option Mode → List LineState → State
+state_at line mode [] = stable_of mode
+state_at line mode (e ∷ es) = if e.line == line then e.state else state_at line mode es
+
+abbrev pub other_states : ℕ → List LineState → List LineState
+other_states line es = filter (λ e. not (e.line == line)) es
+
+-- a stable state isn't listed
+abbrev pub listed : ℕ → State → List LineState
+listed line state = if is_stable state then [] else record { line = line; state = state } ∷ []
+
+abbrev pub with_state : ℕ → State → List LineState → List LineState
+with_state line state es = other_states line es ++ listed line state

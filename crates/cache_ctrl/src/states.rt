@@ -1,0 +1,117 @@
+//! The states of a core's lines.
+ghost use Rattle.std.specs.Prelude.{◌≡◌, ◌≢◌, ◌<◌, [], ◌∷◌, ◌++◌, ◌==◌, length, Some, None, option_map};
+ghost use Rattle.std.specs.List.{find};
+ghost use Rattle.cache_ctrl.specs.declared.states.TheConstants.{STATES_ROOM};
+ghost use Rattle.cache_ctrl.specs.Table.{next_of};
+ghost use Rattle.cache_ctrl.specs.States.{is_stable, other_states, stable_of, state_at, with_state};
+
+use crate::{Duty, Event, next};
+use arrayvec::ArrayVec;
+use pmsi_model::limits::CORES_ROOM;
+use pmsi_model::{Mode, State};
+use std::marker::Model;
+
+/// The room of a list with each line that is on its way in a core: the line of its want, and those to write back.
+pub const STATES_ROOM: usize = CORES_ROOM + 2;
+
+/// A line and its state.
+#[derive(Clone, Copy)]
+pub struct LineState {
+    pub line: u32,
+    pub state: State,
+}
+
+/// The lines of a core with a request or a write-back on its way, each with its state. The state of every other line is
+/// said by its mode in the cache.
+#[derive(Drop)]
+pub struct LineStates {
+    items: ArrayVec<LineState, STATES_ROOM>,
+}
+
+impl Model for LineStates {
+    ghost use Rattle.std.specs.Prelude.{List};
+    ghost use Rattle.cache_ctrl.specs.declared.states.LineState.{LineState};
+
+    ghost Value = { List LineState };
+
+    ghost view = { λ a. a.items.items };
+}
+
+/// The state of a line that has nothing on its way.
+fn stable(mode: Option<Mode>) -> State
+    ensures { result ≡ stable_of mode }
+{
+    match mode {
+        None => State::I,
+        Some(Mode::Shared) => State::S,
+        Some(Mode::Modified) => State::M,
+    }
+}
+
+fn is_stable(state: State) -> bool
+    ensures { result ≡ is_stable state }
+{
+    matches!(state, State::I | State::S | State::M)
+}
+
+fn state_in(states: &[LineState], line: u32) -> Option<State>
+    ensures { result ≡ option_map (λ e. e.state) (find (λ e. e.line == line) states.now) }
+{
+    states
+        .iter()
+        .find(|item| item.line == line)
+        .map(|item| item.state)
+}
+
+impl LineStates {
+    /// No line has anything on its way. It takes no memory.
+    pub fn new() -> LineStates
+        ensures { result ≡ [] }
+    {
+        LineStates {
+            items: ArrayVec::new(),
+        }
+    }
+
+    /// Equal states. It takes no memory.
+    pub fn copy(&self) -> LineStates
+        ensures { result ≡ self.now }
+    {
+        let mut items = ArrayVec::new();
+        let Ok(()) = items.try_extend_from_slice(self.items.as_slice()) else {
+            unreachable!()
+        };
+        LineStates { items }
+    }
+
+    /// The state of a line that is held in this mode.
+    pub fn state(&self, line: u32, mode: Option<Mode>) -> State
+        ensures { result ≡ state_at line mode self.now }
+    {
+        state_in(self.items.as_slice(), line).unwrap_or(stable(mode))
+    }
+
+    /// The line gets this state.
+    fn put(&mut self, line: u32, state: State)
+        requires { length (other_states line self.old) < STATES_ROOM }
+        ensures { self.new ≡ with_state line state self.old }
+    {
+        self.items.retain(|item| item.line != line);
+        if !is_stable(state) {
+            self.items.push(LineState { line, state });
+        }
+    }
+
+    /// The state of a line that is held in this mode changes by the table. The answer is the new state and the core's duty,
+    /// which has to be done for the line's mode to be that of its state. No memory is taken.
+    pub fn step(&mut self, line: u32, mode: Option<Mode>, event: Event) -> (State, Duty)
+        requires comes { next_of (state_at line mode self.old) event ≢ None }
+        requires room { length (other_states line self.old) < STATES_ROOM }
+        ensures entry { next_of (state_at line mode self.old) event ≡ Some result }
+        ensures after { self.new ≡ with_state line result.0 self.old }
+    {
+        let (state, duty) = next(self.state(line, mode), event);
+        self.put(line, state);
+        (state, duty)
+    }
+}
