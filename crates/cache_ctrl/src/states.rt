@@ -21,6 +21,16 @@ pub struct LineState {
     pub state: State,
 }
 
+impl Default for LineState {
+    /// What stands in the places that list no line.
+    fn default() -> LineState {
+        LineState {
+            line: 0,
+            state: State::I,
+        }
+    }
+}
+
 /// The lines of a core with a request or a write-back on its way, each with its state. The state of every other line is
 /// said by its mode in the cache.
 #[derive(Drop)]
@@ -91,12 +101,19 @@ impl LineStates {
         state_in(self.items.as_slice(), line).unwrap_or(stable(mode))
     }
 
+    /// The line is listed no more.
+    fn remove(&mut self, line: u32)
+        ensures { self.new ≡ other_states line self.old }
+    {
+        self.items.retain(|item| item.line != line);
+    }
+
     /// The line gets this state.
     fn put(&mut self, line: u32, state: State)
         requires { length (other_states line self.old) < STATES_ROOM }
         ensures { self.new ≡ with_state line state self.old }
     {
-        self.items.retain(|item| item.line != line);
+        self.remove(line);
         if !is_stable(state) {
             self.items.push(LineState { line, state });
         }
