@@ -1,1 +1,9 @@
-pub mod Listed
+pub mod Exports
+mod Listed
+mod Behind
+mod Cells
+mod Settled
+mod Others
+mod Own
+mod Fills
+mod Chooses
