@@ -1,5 +1,6 @@
 pub mod Exports
 mod Listed
+mod Knows
 mod Behind
 mod Cells
 mod Settled
