@@ -1,0 +1,4 @@
+pub mod Steps
+pub mod Follow
+pub mod Phases
+pub mod Meanings
