@@ -1,7 +1,7 @@
 -- The lemmas of this crate's proofs that other crates may name. They name no other file of these proofs.
 
 -- ---- the facts of a core that its states rest on
-pub use Rattle.cache_ctrl.proofs.Settled.{IsSettled, settled_of}
+pub use Rattle.cache_ctrl.proofs.Settled.{IsSettled, settled_of, behind_unheld}
 -- ---- another core's request is posted, or filled
 pub use Rattle.cache_ctrl.proofs.Others.{noted_done, other_posts, other_posts_else, other_fills}
 -- ---- the core's own request is posted, or filled

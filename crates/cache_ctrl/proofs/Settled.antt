@@ -99,3 +99,16 @@ fit_of posted c k f line = record {
   taken = λ some write. let b = behind_once c posted f.once in let w = writer_of line (behind_of c posted) b.0 write in
       λ shared. f.write_alone w.0.core w.0 (behind_request c w.0.core posted w.0 f.once w.1) w.3 (λ same. grind (arith, b.1, w.1)) (ap (λ (l : ℕ). mode_of l k.held) w.2 ∙ shared);
 }
+
+unheld_by : (m : Option Mode) → m ≢ Some Modified → m ≢ Some Shared → m ≡ None
+unheld_by None owned shared = refl
+unheld_by (Some Shared) owned shared = absurd (shared refl)
+unheld_by (Some Modified) owned shared = absurd (owned refl)
+
+-- a core doesn't hold a line for which a write is queued behind its own request
+pub behind_unheld : (posted : List Request) (c : ℕ) (k : CoreState) → IsSettled posted c k → (r : Request) → request_of c posted ≡ Some r
+    → has_write r.line (behind_of c posted) ≡ true → mode_of r.line k.held ≡ None
+behind_unheld posted c k f r mine write =
+    let fit = fit_of posted c k f r.line in
+    let some : asked_of r.line (request_of c posted) ≢ None = (λ none. grind arith) in
+    unheld_by (mode_of r.line k.held) (fit.unowned some) (fit.taken some write)

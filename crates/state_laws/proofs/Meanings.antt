@@ -1,5 +1,5 @@
 -- The meanings of the states tell every line's state.
-use Rattle.std.proofs.Common.{◌≡◌, ◌≢◌, ℕ, List, [], ◌∷◌, Option, Some, None, Bool, true, false, refl, sym, ◌∙◌, subst, arith}
+use Rattle.std.proofs.Common.{◌≡◌, ◌≢◌, ℕ, ◌+◌, List, [], ◌∷◌, Option, Some, None, Bool, true, false, refl, sym, ◌∙◌, subst, arith}
 use Rattle.pmsi_model.specs.declared.Kind.{Kind}
 use Rattle.pmsi_model.specs.declared.Kind.TheVariants.{Read, Write}
 use Rattle.pmsi_model.specs.declared.Mode.{Mode}
@@ -12,6 +12,7 @@ use Rattle.pmsi_model.specs.Named.{named, asked_of, behind_of, state_in, state_o
 use Rattle.pmsi_model.specs.Run.{after_phases, machine_at}
 use Rattle.pmsi_model.proofs.Requests.{request_core}
 use Rattle.coherence_laws.proofs.Exports.{stays_coherent, phases_coherent}
+use Rattle.cache_ctrl.proofs.Exports.{IsSettled, settled_of, behind_unheld}
 use Rattle.state_laws.specs.Cases.{HasPosted, HasNotPosted, IsCase, IsNamed, StatesAreCases}
 
 -- ---- over plain values
@@ -150,15 +151,19 @@ case_at x c line owns =
     (has_request line (behind_of c x.posted)) (has_write line (behind_of c x.posted))
     (unowned_by x c line (asked_at x c line) owns refl))
 
-named_at : (x : Machine) (c line : ℕ) → OwnsNoneAsked x c → IsNamed x c line
-named_at x c line owns = record {
-  meant = λ s is. subst (λ (t : State). IsCase t x c line) is (case_at x c line owns);
-  some = (state_of x c line, case_at x c line owns);
-  alone = λ s t one two. only_at x c line owns s one ∙ sym (only_at x c line owns t two);
+named_at : (x : Machine) (c line : ℕ) → IsSettled x.posted c (x.cores c) → IsNamed x c line
+named_at x c line f = record {
+  meant = λ s is. subst (λ (t : State). IsCase t x c line) is (case_at x c line f.posted_unowned);
+  some = (state_of x c line, case_at x c line f.posted_unowned);
+  alone = λ s t one two. only_at x c line f.posted_unowned s one ∙ sym (only_at x c line f.posted_unowned t two);
+  read_unheld = λ read. f.posted_unheld (record { core = c; line = line; kind = Read }) read refl;
+  write_unheld = λ write behind. behind_unheld x.posted c (x.cores c) f (record { core = c; line = line; kind = Write }) write behind;
+  owned_unposted = λ owned kind is. f.posted_unowned (record { core = c; line = line; kind = kind }) is owned;
 }
 
 pub states_are_cases : StatesAreCases
-states_are_cases job is slot c line below = (
-  named_at (machine_at job slot) c line ((stays_coherent job is slot).posted_unowned c),
-  named_at (after_phases job (machine_at job slot)) c line ((phases_coherent job is slot job.shape.cores (omega arith)).posted_unowned c),
-)
+states_are_cases job is slot c line below =
+    let x : Machine = machine_at job slot in let y : Machine = after_phases job x in (
+      named_at x c line (settled_of job.shape x (stays_coherent job is slot) c),
+      named_at y c line (settled_of job.shape (record y { slot = slot + 1 }) (phases_coherent job is slot job.shape.cores (omega arith)) c),
+    )

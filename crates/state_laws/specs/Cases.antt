@@ -90,11 +90,15 @@ IsCase MIWB x c line = Holds Modified x c line × Waits x c line × WouldDrop x 
 
 -- ---- the law
 
--- a line in a core: its state's meaning holds, one meaning holds, and no two of different states do
+-- a line in a core: its state's meaning holds, one meaning holds, and no two of different states do. Beside this the line of
+-- a posted read isn't held, nor that of a posted write with a write behind it, and nothing is posted for an owned line
 pub record IsNamed (x : Machine) (c line : ℕ) : Type 0 where
   pub meant : (s : State) → state_of x c line ≡ s → IsCase s x c line
   pub some : (s : State) × IsCase s x c line
   pub alone : (s t : State) → IsCase s x c line → IsCase t x c line → s ≡ t
+  pub read_unheld : HasPosted Read x c line → HoldsNot x c line
+  pub write_unheld : HasPosted Write x c line → WriteIsBehind x c line → HoldsNot x c line
+  pub owned_unposted : Holds Modified x c line → HasNotPosted x c line
 
 -- at each slot boundary, and when all cores have done their phases of the slot
 abbrev pub StatesAreCases : Type 0
