@@ -7,11 +7,6 @@ use Rattle.pmsi_model.proofs.Requests.{removed_none, has_request_else, has_write
 use Rattle.pmsi_model.proofs.Cases.{by_test}
 use Rattle.pmsi_model.specs.Named.{behind_of}
 
-pub behind_none : (c : ℕ) (rs : List Request) → request_of c rs ≡ None → behind_of c rs ≡ []
-unfolding behind_of
-behind_none c [] none = refl
-behind_none c (x ∷ rs) none = grind (arith, behind_none c rs)
-
 pub behind_more : (c : ℕ) (rs : List Request) (r q : Request) → request_of c rs ≡ Some q → behind_of c (rs ++ r ∷ []) ≡ behind_of c rs ++ r ∷ []
 unfolding behind_of
 behind_more c [] r q is = absurd (grind arith)

@@ -13,5 +13,5 @@ pub use Rattle.cache_ctrl.proofs.Own.{waiting_state, writes_back, writes_back_el
 pub use Rattle.cache_ctrl.proofs.Chooses.{choose_duty, chosen_held, chosen_backs, chooses, misses_else, accesses_same}
 -- ---- a list of states that has the named states of a core's lines, and how long it can be
 pub use Rattle.cache_ctrl.proofs.Knows.{stable_state_of, transient_state_of, knows_set, knows_same, knows_step, known_entry}
-pub use Rattle.cache_ctrl.proofs.Knows.{transient_set, entry_transient, all_but_one, knows_within}
+pub use Rattle.cache_ctrl.proofs.Knows.{transient_set, entry_transient, all_but_one, knows_within, knows_room}
 pub use Rattle.cache_ctrl.proofs.Listed.{state_set, fewer_others}

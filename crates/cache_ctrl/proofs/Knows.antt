@@ -1,5 +1,5 @@
 -- A list of states that has the named state of each line of a core, and how long it can be.
-use Rattle.std.proofs.Common.{◌≡◌, ◌≢◌, ◌⊎◌, ℕ, ◌+◌, ◌≤◌, length, List, [], ◌∷◌, ◌++◌, Bool, true, false, not, Option, Some, None, ◌==◌, ◌&&◌, ◌||◌, if◌then◌else◌, refl, sym, ap, ◌∙◌, inl, inr, arith}
+use Rattle.std.proofs.Common.{◌≡◌, ◌≢◌, ◌⊎◌, ℕ, ◌+◌, ◌<◌, ◌≤◌, length, List, [], ◌∷◌, ◌++◌, Bool, true, false, not, Option, Some, None, ◌==◌, ◌&&◌, ◌||◌, if◌then◌else◌, refl, sym, ap, ◌∙◌, inl, inr, arith}
 use mathlib.Core.Logic.{dite}
 use native.Mathlib.Decide.{ℕ_discrete}
 use Rattle.pmsi_model.specs.declared.Kind.{Kind}
@@ -10,12 +10,14 @@ use Rattle.pmsi_model.specs.declared.State.{State}
 use Rattle.pmsi_model.specs.Machine.{CoreState, Request, mode_of, has_line, has_request, has_write, request_of}
 use Rattle.pmsi_model.specs.Named.{named, asked_of, behind_of, state_in, stays_shared}
 use Rattle.pmsi_model.proofs.WriteBacks.{without_line, line_less}
+use Rattle.pmsi_model.specs.declared.limits.TheConstants.{MAX_CORES}
+use Rattle.cache_ctrl.specs.declared.states.TheConstants.{STATES_ROOM}
 use Rattle.cache_ctrl.specs.declared.Event.{Event}
 use Rattle.cache_ctrl.specs.declared.Duty.{Duty}
 use Rattle.cache_ctrl.specs.declared.states.LineState.{LineState}
 use Rattle.cache_ctrl.specs.Table.{next_of}
 use Rattle.cache_ctrl.specs.States.{is_stable, stable_of, state_at, other_states, listed, with_state, has_entry, AreTransient, Knows}
-use Rattle.cache_ctrl.proofs.Listed.{state_set}
+use Rattle.cache_ctrl.proofs.Listed.{state_set, fewer_others}
 
 -- ---- stable states
 
@@ -157,3 +159,9 @@ knows_within posted c k es are knows =
     all_but_one es k.write_backs (line_of_request (request_of c posted)) are
     (λ l is away. by_side k.write_backs (request_of c posted) l
     (transient_state_of posted c k l (ap is_stable (sym (knows l)) ∙ entry_transient l (mode_of l k.held) es are is)) away)
+
+-- so there is room for one more
+pub knows_room : (posted : List Request) (c : ℕ) (k : CoreState) (es : List LineState) (line : ℕ) → AreTransient es → Knows es k (state_in posted c k)
+    → length k.write_backs ≤ MAX_CORES → length (other_states line es) < STATES_ROOM
+knows_room posted c k es line are knows within =
+    let few = fewer_others line es in let most = knows_within posted c k es are knows in omega arith

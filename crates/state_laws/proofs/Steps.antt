@@ -15,27 +15,20 @@ use Rattle.pmsi_model.proofs.Changes.{posted_core, filled_core, written_core, po
 use Rattle.coherence_laws.proofs.Exports.{IsWhole, whole_coherent}
 use Rattle.cache_ctrl.specs.declared.Event.{Event}
 use Rattle.cache_ctrl.specs.declared.Event.TheVariants.{OwnFill, OwnBack}
-use Rattle.cache_ctrl.specs.declared.Duty.{Duty}
-use Rattle.cache_ctrl.specs.Table.{next_of}
 use Rattle.pmsi_model.specs.Named.{state_in, state_of, stays_shared}
 use Rattle.cache_ctrl.specs.Duties.{own_event, other_event}
 use Rattle.cache_ctrl.proofs.Exports.{IsSettled, settled_of, other_posts, other_posts_else, other_fills, want_request, writes_back, writes_back_else, own_posts, own_posts_else, own_fills, own_fills_else}
-use Rattle.state_laws.specs.Laws.{next_from, next_all, after_entry}
+use Rattle.state_laws.specs.Laws.{next_all, after_entry}
 
 -- the facts of a core, from those of all
 pub settled_in : (shape : Geometry) (slot : ℕ) (x : Machine) → IsWhole shape slot x.posted x.cores → (c : ℕ) → IsSettled x.posted c (x.cores c)
 settled_in shape slot x w c = settled_of shape (record x { slot = slot }) (whole_coherent shape (record x { slot = slot }) w) c
 
--- a line on which something happens, or another
-pub one_event : (s t : State) (e : Event) (d : Duty) → next_of s e ≡ Some (t, d) → next_all (Some s) (e ∷ []) ≡ Some t
-one_event s t e d is = ap after_entry is
-
-pub two_events : (s t u : State) (e f : Event) (d d' : Duty) → next_of s e ≡ Some (t, d) → next_of t f ≡ Some (u, d') → next_all (Some s) (e ∷ f ∷ []) ≡ Some u
-two_events s t u e f d d' first second = ap (λ o. next_from o f) (one_event s t e d first) ∙ ap after_entry second
-
+-- events of one line, for another
 abbrev pub at_line : ℕ → ℕ → List Event → List Event
 at_line line l events = if line == l then events else []
 
+-- the line itself or another one
 pub by_line : (line l : ℕ) (events : List Event) (s t : State) → (line ≡ l → next_all (Some s) events ≡ Some t) → (line ≢ l → t ≡ s)
     → next_all (Some s) (at_line line l events) ≡ Some t
 by_line line l events s t here away = dite (ℕ_discrete line l)
@@ -109,11 +102,3 @@ back_own shape slot x c l line lines w first =
     rw e (by_line line l (OwnBack ∷ []) (state_of x c line) (state_in x.posted c (written_core l kept k) line)
     (λ same. rw same (ap after_entry (writes_back x.posted c k l lines kept f first refl)))
     (λ apart. writes_back_else x.posted c k l line lines kept first apart))
-
--- an entry that leads to a state
-entry_to : (o : Option (State × Duty)) (t : State) → after_entry o ≡ Some t → (d : Duty) × (o ≡ Some (t, d))
-entry_to None t is = absurd (grind arith)
-entry_to (Some r) t is = (r.1, grind arith)
-
-pub entry_of : (s t : State) (e : Event) → next_all (Some s) (e ∷ []) ≡ Some t → (d : Duty) × (next_of s e ≡ Some (t, d))
-entry_of s t e is = entry_to (next_of s e) t is
