@@ -9,13 +9,14 @@ use Rattle.pmsi_model.specs.declared.State.TheVariants.{I, S, M}
 use Rattle.pmsi_model.specs.Machine.{CoreState, mode_of}
 use Rattle.cache_ctrl.specs.declared.states.LineState.{LineState}
 
--- the states of a line with nothing on its way
+-- whether a state is one of a line with nothing on its way
 abbrev pub is_stable : State → Bool
 is_stable I = true
 is_stable S = true
 is_stable M = true
 is_stable state = false
 
+-- the stable state of a mode
 abbrev pub stable_of : Option Mode → State
 stable_of None = I
 stable_of (Some Shared) = S
@@ -26,6 +27,7 @@ abbrev pub state_at : ℕ → Option Mode → List LineState → State
 state_at line mode [] = stable_of mode
 state_at line mode (e ∷ es) = if e.line == line then e.state else state_at line mode es
 
+-- the states of the other lines
 abbrev pub other_states : ℕ → List LineState → List LineState
 other_states line es = filter (λ e. not (e.line == line)) es
 
@@ -33,6 +35,7 @@ other_states line es = filter (λ e. not (e.line == line)) es
 abbrev pub listed : ℕ → State → List LineState
 listed line state = if is_stable state then [] else record { line = line; state = state } ∷ []
 
+-- the line gets this state, last where it is listed
 abbrev pub with_state : ℕ → State → List LineState → List LineState
 with_state line state es = other_states line es ++ listed line state
 
