@@ -1,5 +1,5 @@
--- What each change of shared memory keeps, and the room that it finds.
-use Rattle.std.proofs.Common.{◌==◌, ◌≢◌, suc, not, Bool, subst, length-take, length-drop, sym, ◌∙◌, ◌≡◌, ℕ, ◌+◌, ◌*◌, ◌<◌, ◌≤◌, List, [], ◌∷◌, ◌++◌, length, take, drop, Option, Some, None, true, false, refl, ap, arith, if◌then◌else◌, length-append, length-set}
+-- What each change of shared memory keeps.
+use Rattle.std.proofs.Common.{◌==◌, suc, not, Bool, subst, length-take, length-drop, sym, ◌∙◌, ◌≡◌, ℕ, ◌+◌, ◌*◌, ◌<◌, ◌≤◌, List, [], ◌∷◌, ◌++◌, length, take, drop, Option, Some, option_map, None, true, false, refl, ap, arith, if◌then◌else◌, length-append, length-set}
 use mathlib.Core.Logic.{dite}
 use native.Mathlib.Decide.{dec_le}
 use Rattle.std.specs.List.{All}
@@ -7,31 +7,18 @@ use Rattle.std.proofs.lemmas.List.{get_or_past}
 use Rattle.std.specs.Prelude.{slice_index_or, slice_set}
 use Rattle.std.proofs.lemmas.List.Elements.{All-nil, All-cons, All-append, All-filter}
 use Rattle.pmsi_model.specs.declared.Kind.{Kind}
-use Rattle.pmsi_model.specs.declared.limits.TheConstants.{MAX_CORES}
 use Rattle.pmsi_model.specs.Machine.{Request, is_write, request_of}
 use Rattle.pmsi_model.specs.Shared.{SharedValue, IsShared, IsLine, CanPost, CanWriteBack, owner_in, with_request, without_request, written_back}
+use Rattle.memory_lut.specs.declared.entry.Entry.{Entry}
+use Rattle.memory_lut.specs.Table.{request_at}
 use Rattle.pmsi_model.proofs.Cases.{by_test}
-use Rattle.pmsi_model.proofs.Requests.{requests_below, requests_once_more, requests_once_less}
+use Rattle.pmsi_model.proofs.Requests.{requests_once_more, requests_once_less}
 
 all_first : (P : Request → Type 0) (r : Request) (rs : List Request) → All P (r ∷ rs) → P r
 all_first P r rs all = all 0 r (omega arith)
 
 all_later : (P : Request → Type 0) (r : Request) (rs : List Request) → All P (r ∷ rs) → All P rs
 all_later P r rs all k d h = all (suc k) d (omega arith)
-
-none_past : (count : ℕ) (rs : List Request) → All (λ r. r.core < count) rs → (c : ℕ) → count ≤ c → request_of c rs ≡ None
-none_past count [] below c past = refl
-none_past count (r ∷ rs) below c past =
-    let first = all_first (λ (r : Request). r.core < count) r rs below in
-    let other : r.core ≢ c = λ same. omega (arith, same, first) in
-    grind (arith, other, none_past count rs (all_later (λ (r : Request). r.core < count) r rs below) c past)
-
--- a core that posts finds room
-pub room_to_post : (m : SharedValue) (c line : ℕ) → IsShared m → c < m.shape.cores → CanPost c line m → length m.posted < MAX_CORES
-room_to_post m c line is below can =
-    let fits = requests_below m.shape.cores m.posted c is.once (none_past m.shape.cores m.posted is.cores) below can.unposted in
-    let most = is.shape.cores in
-    omega arith
 
 -- a core's request has what all have
 pub all_request : (P : Request → Type 0) (c : ℕ) (rs : List Request) (r : Request) → All P rs → request_of c rs ≡ Some r → P r
@@ -106,6 +93,6 @@ IsShared-written_back m c line words is can =
     }
 
 -- the line of a request that was found is one of memory
-pub found_line : (m : SharedValue) (c : ℕ) (answer : Option Request) (r e : Request) → IsShared m → answer ≡ request_of c m.posted → answer ≡ Some e → r ≡ e → IsLine m.shape r.line
-found_line m c answer r e is found here same =
-    all_request (λ (r : Request). IsLine m.shape r.line) c m.posted r is.lines (sym found ∙ here ∙ ap (λ (r : Request). Some r) (sym same))
+pub found_line : (m : SharedValue) (c : ℕ) (o : Option Entry) (e : Entry) → IsShared m → option_map request_at o ≡ request_of c m.posted → o ≡ Some e → IsLine m.shape e.line
+found_line m c o e is found here =
+    all_request (λ (r : Request). IsLine m.shape r.line) c m.posted (request_at e) is.lines (sym found ∙ ap (option_map request_at) here)

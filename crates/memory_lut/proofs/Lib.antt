@@ -1,2 +1,5 @@
-pub mod Queues
+pub mod ByStamp
+pub mod Searches
+pub mod Entries
+pub mod Renewal
 pub mod Keeps

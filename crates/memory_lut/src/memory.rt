@@ -25,13 +25,15 @@ pub struct SharedMemory {
 }
 
 impl Model for SharedMemory {
+    ghost use Rattle.std.specs.Prelude.{◌≡◌};
     ghost use Rattle.pmsi_model.specs.Shared.{SharedValue, IsShared};
 
     ghost Value = { SharedValue };
 
-    ghost view = { λ a. record { shape = a.shape; posted = a.requests; owners = a.owners; words = a.words } };
+    ghost view = { λ a. record { shape = a.shape; posted = a.requests.posted; owners = a.owners; words = a.words } };
 
-    ghost invariant = { λ a. IsShared (record { shape = a.shape; posted = a.requests; owners = a.owners; words = a.words }) };
+    ghost invariant = { λ a.
+        IsShared (record { shape = a.shape; posted = a.requests.posted; owners = a.owners; words = a.words }) × (a.requests.cores ≡ a.shape.cores) };
 }
 
 impl SharedMemory {
@@ -49,7 +51,7 @@ impl SharedMemory {
         let lines = shape.memory / shape.line_bytes();
         Ok(SharedMemory {
             shape,
-            requests: Requests::new(),
+            requests: Requests::new(alloc, shape.cores)?,
             owners: Owners::none(alloc, lines as usize)?,
             words: MemoryWords::from_bytes(alloc, start)?,
         })
@@ -93,8 +95,7 @@ impl SharedMemory {
     pub fn ahead(&self, core: u32) -> Option<u32>
         ensures { result ≡ option_map (λ r. ahead core r.line self.now.posted) (request_of core self.now.posted) }
     {
-        let entry = self.requests.of_core(core)?;
-        Some(self.requests.ahead(core, entry.line))
+        self.requests.ahead(core)
     }
 
     /// What is queued for a line.
@@ -165,7 +166,7 @@ impl SharedMemory {
     {
         Ok(SharedMemory {
             shape: self.shape,
-            requests: self.requests.copy(),
+            requests: self.requests.copy(alloc)?,
             owners: self.owners.copy(alloc)?,
             words: self.words.copy(alloc)?,
         })

@@ -1,177 +1,185 @@
-//! The posted requests, in posting order.
-ghost use Rattle.std.specs.Prelude.{◌≡◌, ◌<◌, ◌≤◌, ◌∷◌, ◌++◌, [], ◌==◌, ◌&&◌, length, Option, None, Some, option_map, position};
-ghost use Rattle.std.specs.List.{find, list_any};
+//! The posted requests, in a table with an entry for each core.
+ghost use Rattle.std.specs.Prelude.{◌≡◌, ◌<◌, ◌≤◌, ◌∷◌, ◌++◌, [], ◌==◌, ◌&&◌, length, IfOk, None, Some, option_map, slice_index_or};
+ghost use Rattle.std.specs.List.{filter, list_any};
 ghost use Rattle.pmsi_model.specs.declared.limits.TheConstants.{MAX_CORES};
 ghost use Rattle.pmsi_model.specs.Machine.{is_write, first_of, ahead, request_of, removed};
 ghost use Rattle.pmsi_model.specs.Bus.{is_core};
-ghost use Rattle.pmsi_model.specs.Coherent.{RequestsOnce};
 ghost use Rattle.pmsi_model.specs.Named.{behind_of};
 ghost use Rattle.pmsi_model.specs.Shared.{behind_in};
+ghost use Rattle.memory_lut.specs.Table.{request_at, sooner, soonest, is_before, is_from, queued_from};
 
-use arrayvec::ArrayVec;
-use pmsi_model::limits::CORES_ROOM;
-use pmsi_model::{Behind, Kind};
+use crate::entry::Entry;
+use crate::stamps;
+use pmsi_model::{Behind, Kind, NoMemory};
+use std::alloc::Global;
 use std::marker::Model;
 
-/// A posted request.
-#[derive(Clone, Copy)]
-pub struct Entry {
-    pub core: u32,
-    pub line: u32,
-    pub kind: Kind,
-}
-
-impl Model for Entry {
-    ghost use Rattle.pmsi_model.specs.Machine.{Request};
-
-    ghost Value = { Request };
-
-    ghost view = { λ a. record { core = a.core; line = a.line; kind = a.kind } };
-
-    ghost inverse = { λ r. record { core = r.core; line = r.line; kind = r.kind } };
-}
-
-impl Default for Entry {
-    /// What stands in the places that hold no request.
-    fn default() -> Entry {
-        Entry {
-            core: 0,
-            line: 0,
-            kind: Kind::Read,
-        }
-    }
-}
-
-/// The posted requests, in a room for one of each core.
+/// The posted requests. The entry of a core is at its number.
 #[derive(Drop)]
 pub struct Requests {
-    items: ArrayVec<Entry, CORES_ROOM>,
+    entries: Vec<Option<Entry>>,
+    /// Above the stamp of each request.
+    next: u64,
 }
 
 impl Model for Requests {
-    ghost use Rattle.std.specs.Prelude.{List};
-    ghost use Rattle.pmsi_model.specs.Machine.{Request};
+    ghost use Rattle.memory_lut.specs.Table.{TableValue, table_of, IsTable};
 
-    ghost Value = { List Request };
+    ghost Value = { TableValue };
 
-    ghost view = { λ a. a.items.items };
+    ghost view = { λ a. table_of a.entries.items };
+
+    ghost invariant = { λ a. IsTable a.next a.entries.items };
 }
 
-/// How many requests for a line stand before the core's.
-fn ahead_in(entries: &[Entry], core: u32, line: u32) -> u32
+/// The earlier of a line's request that was found and an entry's, where that is for the line.
+fn sooner(line: u32, found: Option<Entry>, entry: Option<Entry>) -> Option<Entry>
+    ensures { result ≡ sooner line found entry }
+{
+    match (found, entry) {
+        (_, None) => found,
+        (None, Some(new)) if new.line == line => entry,
+        (None, Some(_)) => None,
+        (Some(old), Some(new)) if new.line == line && new.stamp < old.stamp => entry,
+        (Some(_), Some(_)) => found,
+    }
+}
+
+/// A line's request of the least stamp.
+fn soonest(entries: &[Option<Entry>], line: u32) -> Option<Entry>
+    ensures { result ≡ soonest line entries.now }
+{
+    let mut first = None;
+    for entry in entries {
+        first = sooner(line, first, *entry);
+    }
+    first
+}
+
+/// Whether an entry has a request for a line, with a stamp below this one.
+fn is_before(entry: &Option<Entry>, line: u32, stamp: u64) -> bool
+    ensures { result ≡ is_before line stamp entry.now }
+{
+    match entry {
+        Some(entry) => entry.line == line && entry.stamp < stamp,
+        None => false,
+    }
+}
+
+/// How many requests for a line have a stamp below this one.
+fn count_before(entries: &[Option<Entry>], line: u32, stamp: u64) -> u32
     requires { length entries.now ≤ MAX_CORES }
-    ensures { result ≡ ahead core line entries.now }
-{
-    let mut count = 0;
-    for entry in entries {
-        if entry.core == core {
-            return count;
-        }
-        if entry.line == line {
-            count += 1;
-        }
-    }
-    count
-}
-
-fn request_in(entries: &[Entry], core: u32) -> Option<Entry>
-    ensures { result ≡ request_of core entries.now }
-{
-    for entry in entries {
-        if entry.core == core {
-            return Some(*entry);
-        }
-    }
-    None
-}
-
-fn first_in(entries: &[Entry], line: u32) -> Option<u32>
-    ensures { result ≡ option_map (λ r. r.core) (find (λ r. r.line == line) entries.now) }
+    ensures { result ≡ length (filter (is_before line stamp) entries.now) }
 {
     entries
         .iter()
-        .find(|entry| entry.line == line)
-        .map(|entry| entry.core)
+        .filter(|entry| is_before(entry, line, stamp))
+        .count() as u32
 }
 
-fn has_request_in(entries: &[Entry], line: u32) -> bool
-    ensures { result ≡ list_any (λ r. r.line == line) entries.now }
+/// Whether an entry has a request for a line, with a stamp from this one on.
+fn is_request_from(entry: &Option<Entry>, line: u32, from: u64) -> bool
+    ensures { result ≡ is_from (λ r. r.line == line) from entry.now }
 {
-    entries.iter().any(|entry| entry.line == line)
-}
-
-fn has_write_in(entries: &[Entry], line: u32) -> bool
-    ensures { result ≡ list_any (λ r. r.line == line && is_write r.kind) entries.now }
-{
-    entries
-        .iter()
-        .any(|entry| entry.line == line && entry.kind == Kind::Write)
-}
-
-fn place_of(entries: &[Entry], core: u32) -> Option<usize>
-    ensures { result ≡ position (λ r. r.core == core) entries.now }
-{
-    entries.iter().position(|entry| entry.core == core)
-}
-
-/// The requests that stand behind a core's.
-fn behind_core(entries: &[Entry], core: u32) -> &[Entry]
-    ensures { result.now ≡ behind_of core entries.now }
-{
-    match place_of(entries, core) {
-        Some(place) => &entries[place + 1..],
-        None => &[],
+    match entry {
+        Some(entry) => entry.line == line && from <= entry.stamp,
+        None => false,
     }
 }
 
-/// What is queued for a line.
-fn queued_in(entries: &[Entry], line: u32) -> Behind
-    ensures { result ≡ behind_in line entries.now }
+/// Whether an entry has a write for a line, with a stamp from this one on.
+fn is_write_from(entry: &Option<Entry>, line: u32, from: u64) -> bool
+    ensures { result ≡ is_from (λ r. (r.line == line) && is_write r.kind) from entry.now }
 {
-    if has_write_in(entries, line) {
+    match entry {
+        Some(entry) => entry.line == line && entry.kind == Kind::Write && from <= entry.stamp,
+        None => false,
+    }
+}
+
+fn has_request_from(entries: &[Option<Entry>], line: u32, from: u64) -> bool
+    ensures { result ≡ list_any (is_from (λ r. r.line == line) from) entries.now }
+{
+    entries
+        .iter()
+        .any(|entry| is_request_from(entry, line, from))
+}
+
+fn has_write_from(entries: &[Option<Entry>], line: u32, from: u64) -> bool
+    ensures { result ≡ list_any (is_from (λ r. (r.line == line) && is_write r.kind) from) entries.now }
+{
+    entries.iter().any(|entry| is_write_from(entry, line, from))
+}
+
+/// What is queued for a line from a stamp on.
+fn queued_from(entries: &[Option<Entry>], line: u32, from: u64) -> Behind
+    ensures { result ≡ queued_from line from entries.now }
+{
+    if has_write_from(entries, line, from) {
         Behind::Write
-    } else if has_request_in(entries, line) {
+    } else if has_request_from(entries, line, from) {
         Behind::Reads
     } else {
         Behind::Nobody
     }
 }
 
+/// The entry of a core.
+fn entry_of(entries: &[Option<Entry>], core: u32) -> Option<Entry>
+    ensures { result ≡ slice_index_or entries.now core None }
+{
+    match entries.get(core as usize) {
+        Some(entry) => *entry,
+        None => None,
+    }
+}
+
 impl Requests {
-    /// A list without requests. It takes no memory.
-    pub fn new() -> Requests
-        ensures { result ≡ [] }
+    /// A table for so many cores, without requests.
+    pub fn new(alloc: Global, cores: u32) -> Result<Requests, NoMemory>
+        requires { cores ≤ MAX_CORES }
+        ensures { IfOk result (λ r. r ≡ record { cores = cores; posted = [] }) }
     {
-        Requests {
-            items: ArrayVec::new(),
-        }
+        Ok(Requests {
+            entries: vec![in alloc; None; cores as usize]?,
+            next: 0,
+        })
     }
 
     /// The request goes last.
     pub fn push(&mut self, core: u32, line: u32, kind: Kind)
-        requires { length self.old < MAX_CORES }
-        ensures { self.new ≡ self.old ++ record { core = core; line = line; kind = kind } ∷ [] }
+        requires core { core < self.old.cores }
+        requires unposted { request_of core self.old.posted ≡ None }
+        ensures { self.new ≡ record self.old { posted = self.old.posted ++ record { core = core; line = line; kind = kind } ∷ [] } }
     {
-        self.items.push(Entry { core, line, kind });
+        let stamp = stamps::take_stamp(&mut self.entries, self.next);
+        self.entries[core as usize] = Some(Entry {
+            core,
+            line,
+            kind,
+            stamp,
+        });
+        self.next = stamp + 1;
     }
 
     /// The request of a core.
     pub fn of_core(&self, core: u32) -> Option<Entry>
-        ensures { result ≡ request_of core self.now }
+        ensures { option_map request_at result ≡ request_of core self.now.posted }
     {
-        request_in(self.items.as_slice(), core)
+        entry_of(self.entries.as_slice(), core)
     }
 
     /// The core of a line's first request.
     pub fn first(&self, line: u32) -> Option<u32>
-        ensures { result ≡ first_of line self.now }
+        ensures { result ≡ first_of line self.now.posted }
     {
-        first_in(self.items.as_slice(), line)
+        let entry = soonest(self.entries.as_slice(), line)?;
+        Some(entry.core)
     }
 
     /// Whether a core's request is the first of a line.
     pub fn is_first(&self, core: u32, line: u32) -> bool
-        ensures { result ≡ is_core core (first_of line self.now) }
+        ensures { result ≡ is_core core (first_of line self.now.posted) }
     {
         match self.first(line) {
             Some(first) => first == core,
@@ -179,45 +187,48 @@ impl Requests {
         }
     }
 
-    /// How many requests for a line stand before the core's.
-    pub fn ahead(&self, core: u32, line: u32) -> u32
-        ensures { result ≡ ahead core line self.now }
+    /// How many requests for the line of a core's request stand before it.
+    pub fn ahead(&self, core: u32) -> Option<u32>
+        ensures { result ≡ option_map (λ r. ahead core r.line self.now.posted) (request_of core self.now.posted) }
     {
-        ahead_in(self.items.as_slice(), core, line)
+        let entries = self.entries.as_slice();
+        let own = entry_of(entries, core)?;
+        Some(count_before(entries, own.line, own.stamp))
     }
 
     /// What is queued for a line.
     pub fn queued(&self, line: u32) -> Behind
-        ensures { result ≡ behind_in line self.now }
+        ensures { result ≡ behind_in line self.now.posted }
     {
-        queued_in(self.items.as_slice(), line)
+        queued_from(self.entries.as_slice(), line, 0)
     }
 
     /// What is queued for a line behind a core's request.
     pub fn behind(&self, core: u32, line: u32) -> Behind
-        ensures { result ≡ behind_in line (behind_of core self.now) }
+        ensures { result ≡ behind_in line (behind_of core self.now.posted) }
     {
-        queued_in(behind_core(self.items.as_slice(), core), line)
+        let entries = self.entries.as_slice();
+        match entry_of(entries, core) {
+            Some(own) => queued_from(entries, line, own.stamp + 1),
+            None => Behind::Nobody,
+        }
     }
 
     /// Takes the request of a core away.
     pub fn remove(&mut self, core: u32)
-        requires { RequestsOnce self.old }
-        ensures { self.new ≡ removed core self.old }
+        requires { core < self.old.cores }
+        ensures { self.new ≡ record self.old { posted = removed core self.old.posted } }
     {
-        if let Some(place) = place_of(self.items.as_slice(), core) {
-            self.items.remove(place);
-        }
+        self.entries[core as usize] = None;
     }
 
-    /// An equal list. It takes no memory.
-    pub fn copy(&self) -> Requests
-        ensures { result ≡ self.now }
+    /// An equal table.
+    pub fn copy(&self, alloc: Global) -> Result<Requests, NoMemory>
+        ensures { IfOk result (λ r. r ≡ self.now) }
     {
-        let mut items = ArrayVec::new();
-        let Ok(()) = items.try_extend_from_slice(self.items.as_slice()) else {
-            unreachable!()
-        };
-        Requests { items }
+        Ok(Requests {
+            entries: Vec::from_slice(alloc, self.entries.as_slice())?,
+            next: self.next,
+        })
     }
 }

@@ -26,6 +26,8 @@ fn serves_a_line_in_posting_order(rt: HostRuntime) {
     assert_eq!(rt; memory.owner(2), Some(0));
     assert_eq!(rt; memory.ready(1), false);
     memory.write_back(0, 2, &[1, 2, 3, 4]);
+    memory.post(0, 2, Kind::Read);
+    assert_eq!(rt; memory.ahead(0), Some(1));
     let Ok(copy) = memory.copy(rt.alloc()) else {
         panic!(rt; "no memory")
     };

@@ -1,7 +1,16 @@
--- The search finds the first of the queue.
-use Rattle.std.proofs.Common.{◌∙◌}
-use Rattle.memory_lut.proofs.Queues.{first_found}
+-- The request of the least stamp is the first.
+use Rattle.std.proofs.Common.{sym, ap, ◌∙◌}
+use Rattle.std.specs.Option.{option_map}
+use Rattle.memory_lut.specs.declared.entry.Entry.{Entry}
+use Rattle.memory_lut.proofs.Searches.{soonest_first}
 use Rattle.memory_lut.proofs.requests.Requests.first.Goals as goal
 
+pub returns-in_err-entry : goal.returns-in_err-entry
+returns-in_err-entry c =
+    let soonest = rw c.as_slice.ensures.value at c.soonest.ensures in
+    rw (← c.self.view_is) (c.from_residual.ensures ∙ sym (ap (option_map (λ (s : Entry). s.core)) (sym soonest ∙ c.in_err-entry.was)) ∙ soonest_first c.args.line c.self.inside.entries.items c.self.invariant.rises)
+
 pub returns : goal.returns
-returns c = rw (← c.self.view_is) (c.first_in.ensures ∙ rw c.as_slice.ensures.value (first_found c.args.line c.self.inside.items.items))
+returns c =
+    let soonest = rw c.as_slice.ensures.value at c.soonest.ensures in
+    rw (← c.self.view_is) (sym (ap (option_map (λ (s : Entry). s.core)) (sym soonest ∙ c.in_ok-entry.was)) ∙ soonest_first c.args.line c.self.inside.entries.items c.self.invariant.rises)
