@@ -6,7 +6,7 @@ use Rattle.pmsi_model.specs.declared.job.Geometry.{Geometry}
 use Rattle.pmsi_model.specs.Machine.{mode_of, without, to_front, with_mode}
 use Rattle.pmsi_model.specs.Phase.{touched_line}
 use Rattle.cache_array.specs.declared.line.CachedLine.{CachedLine}
-use Rattle.cache_array.specs.Cache.{held_of, words_of, entry_of, others, touched, put_with, put_first, way_of, way_for, with_line_mode, with_word}
+use Rattle.cache_array.specs.Cache.{held_of, words_of, entry_of, others, touched, put_with, put_first, way_of, way_for, with_line_mode, with_word, place_of}
 
 without-absent : (line : ℕ) (held : List (ℕ × Mode)) → mode_of line held ≡ None → without line held ≡ held
 without-absent line [] e = refl
@@ -99,21 +99,14 @@ pub way_of-with_word : (line k place word : ℕ) (lines : List CachedLine) → w
 way_of-with_word line k place word [] = refl
 way_of-with_word line k place word (l ∷ ls) = grind (arith, way_of-with_word line k place word ls)
 
-absent_wayless_by : (line : ℕ) (lines : List CachedLine) (entry : Option CachedLine) → entry_of line lines ≡ entry → way_of line lines ≡ None → mode_of line (held_of lines) ≡ None
-absent_wayless_by line lines None e none = mode_of-entry line lines ∙ ap (option_map (λ (l : CachedLine). l.mode)) e
-absent_wayless_by line lines (Some l) e none = cc
+held_by_place_by : (shape : Geometry) (line place : ℕ) (lines : List CachedLine) (entry : Option CachedLine) → entry_of line lines ≡ entry
+    → place_of line (record { shape = shape; lines = lines }) ≡ Some place → mode_of line (held_of lines) ≢ None
+held_by_place_by shape line place lines None e found none = cc
+held_by_place_by shape line place lines (Some l) e found none = let mode = mode_of-entry line lines ∙ ap (option_map (λ (l : CachedLine). l.mode)) e in cc
 
--- a line without a way isn't held
-pub absent_wayless : (line : ℕ) (lines : List CachedLine) → way_of line lines ≡ None → mode_of line (held_of lines) ≡ None
-absent_wayless line lines none = absent_wayless_by line lines (entry_of line lines) refl none
-
-held_by_way_by : (line way : ℕ) (lines : List CachedLine) (entry : Option CachedLine) → entry_of line lines ≡ entry → way_of line lines ≡ Some way → mode_of line (held_of lines) ≢ None
-held_by_way_by line way lines None e found none = cc
-held_by_way_by line way lines (Some l) e found none = let mode = mode_of-entry line lines ∙ ap (option_map (λ (l : CachedLine). l.mode)) e in cc
-
--- a line with a way is held
-pub held_by_way : (line way : ℕ) (lines : List CachedLine) → way_of line lines ≡ Some way → mode_of line (held_of lines) ≢ None
-held_by_way line way lines found = held_by_way_by line way lines (entry_of line lines) refl found
+-- a line with a place is held
+pub held_by_place : (shape : Geometry) (line place : ℕ) (lines : List CachedLine) → place_of line (record { shape = shape; lines = lines }) ≡ Some place → mode_of line (held_of lines) ≢ None
+held_by_place shape line place lines found = held_by_place_by shape line place lines (entry_of line lines) refl found
 
 -- ---- a line that was put
 

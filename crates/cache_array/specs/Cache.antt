@@ -1,5 +1,5 @@
 -- What a contract sees of a cache: its shape and its lines, most recently used first.
-use Rattle.std.specs.Prelude.{◌≡◌, ◌≢◌, ℕ, zero, suc, ◌+◌, ◌/◌, Bool, false, ◌&&◌, ◌||◌, ◌%◌, ◌≤◌, List, [], ◌∷◌, ◌++◌, map, length, slice_set, not, ◌==◌, Option, None, if◌then◌else◌}
+use Rattle.std.specs.Prelude.{◌≡◌, ◌≢◌, ℕ, zero, suc, ◌+◌, ◌*◌, ◌/◌, Bool, false, ◌&&◌, ◌||◌, ◌%◌, ◌≤◌, List, [], ◌∷◌, ◌++◌, map, length, slice_set, not, ◌==◌, Option, None, if◌then◌else◌}
 use Rattle.std.specs.List.{filter, find}
 use Rattle.std.specs.Option.{option_to_list, option_map, unwrap_or}
 use Rattle.pmsi_model.specs.declared.job.Geometry.{Geometry}
@@ -46,6 +46,10 @@ is_taken shape set way (l ∷ ls) = ((set_of shape l.line == set) && (l.way == w
 abbrev pub free_from : Geometry → ℕ → List CachedLine → ℕ → ℕ → ℕ
 free_from shape set lines zero way = way
 free_from shape set lines (suc count) way = if is_taken shape set way lines then free_from shape set lines count (way + 1) else way
+
+-- the place of a line among the entries of all sets, each set with its ways after the one before: where it is held
+abbrev pub place_of : ℕ → CacheValue → Option ℕ
+place_of line c = option_map (λ way. set_of c.shape line * c.shape.ways + way) (way_of line c.lines)
 
 -- the way for a line: its own, else the least free one of its set
 unfoldable pub way_for : Geometry → ℕ → List CachedLine → ℕ

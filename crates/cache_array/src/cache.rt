@@ -3,11 +3,11 @@ ghost use Rattle.std.specs.Prelude.{◌≡◌, ◌⊎◌, ℕ, ◌*◌, ◌%◌,
 ghost use Rattle.pmsi_model.specs.Geometry.{IsGeometry, line_of};
 ghost use Rattle.pmsi_model.specs.Machine.{mode_of, without, to_front, with_mode};
 ghost use Rattle.pmsi_model.specs.Phase.{set_lines, touched_line, evicted};
-ghost use Rattle.cache_array.specs.Cache.{IsCache, Holds, held_of, words_of, word_place, others, touched, put_first, way_of, way_for, HasOwnWay, with_line_mode, with_word};
+ghost use Rattle.cache_array.specs.Cache.{IsCache, Holds, held_of, words_of, word_place, others, touched, put_first, place_of, way_of, way_for, HasOwnWay, with_line_mode, with_word};
 ghost use Rattle.cache_array.specs.Entries.{AreFree};
 
 use crate::entry::Entry;
-use crate::{CachedLine, address, ages, order, places};
+use crate::{address, ages, order, places};
 use pmsi_model::{Geometry, LineWords, Mode, NoMemory};
 use std::alloc::{AllocError, Global};
 use std::marker::Model;
@@ -25,8 +25,8 @@ pub struct CacheArray {
 /// Where a line stands, and how it is held.
 #[derive(Debug, Clone, Copy, PartialEq, Eq, Drop)]
 pub struct Found {
-    /// The way of the line's set, from 0.
-    pub way: u32,
+    /// The place among the entries of all sets, from 0.
+    pub place: usize,
     pub mode: Mode,
 }
 
@@ -136,26 +136,29 @@ impl CacheArray {
         Some(self.entries[place].cached.way)
     }
 
-    /// The way and the mode of a line. With the way the calls that end in `_in` need no search.
+    /// The place and the mode of a line. With the place the calls that end in `_at` need no search. A line keeps its place
+    /// until it leaves.
     pub fn look_up(&self, line: u32) -> Option<Found>
-        ensures way { option_map (λ f. f.way) result ≡ way_of line self.now.lines }
+        ensures place { option_map (λ f. f.place) result ≡ place_of line self.now }
         ensures mode { option_map (λ f. f.mode) result ≡ mode_of line (held_of self.now.lines) }
         ensures cache { IsCache self.now }
     {
         let place = places::place_of(&self.shape, &self.entries, line)?;
-        let CachedLine { way, mode, .. } = self.entries[place].cached;
-        Some(Found { way, mode })
+        Some(Found {
+            place,
+            mode: self.entries[place].cached.mode,
+        })
     }
 
-    /// The way of a line that is held.
-    fn held_way(&self, line: u32) -> u32
+    /// The place of a line that is held.
+    fn held_place(&self, line: u32) -> usize
         requires { Holds line self.now.lines }
-        ensures { way_of line self.now.lines ≡ Some result }
+        ensures { place_of line self.now ≡ Some result }
     {
-        let Some(way) = self.way(line) else {
+        let Some(found) = self.look_up(line) else {
             unreachable!()
         };
-        way
+        found.place
     }
 
     /// Makes a line the most recently used.
@@ -166,20 +169,19 @@ impl CacheArray {
         ensures words { (k : ℕ) → words_of k self.new.lines ≡ words_of k self.old.lines }
         ensures ways { (k : ℕ) → way_of k self.new.lines ≡ way_of k self.old.lines }
     {
-        let way = self.held_way(line);
-        self.touch_in(way, line);
+        let place = self.held_place(line);
+        self.touch_at(place, line);
     }
 
-    /// Makes the line that stands in a way of its set the most recently used.
-    pub fn touch_in(&mut self, way: u32, line: u32)
-        requires { way_of line self.old.lines ≡ Some way }
+    /// Makes the line that stands at a place the most recently used.
+    pub fn touch_at(&mut self, place: usize, line: u32)
+        requires { place_of line self.old ≡ Some place }
         ensures after { self.new ≡ record self.old { lines = touched line self.old.lines } }
         ensures held { held_of self.new.lines ≡ touched_line (mode_of line (held_of self.old.lines)) line (held_of self.old.lines) }
         ensures words { (k : ℕ) → words_of k self.new.lines ≡ words_of k self.old.lines }
         ensures ways { (k : ℕ) → way_of k self.new.lines ≡ way_of k self.old.lines }
     {
         let age = ages::take_age(&mut self.entries, self.next);
-        let place = places::place_in(&self.shape, &self.entries, line, way);
         self.entries[place].age = age;
         self.next = age + 1;
     }
@@ -241,18 +243,16 @@ impl CacheArray {
         requires held { Holds (line_of self.now.shape address) self.now.lines }
         ensures { result ≡ slice_index (words_of (line_of self.now.shape address) self.now.lines) (word_place self.now.shape address) }
     {
-        let way = self.held_way(address::line_of(&self.shape, address));
-        self.read_word_in(way, address)
+        let place = self.held_place(address::line_of(&self.shape, address));
+        self.read_word_at(place, address)
     }
 
-    /// The word at an address, whose line stands in this way of its set.
-    pub fn read_word_in(&self, way: u32, address: u32) -> u32
+    /// The word at an address, whose line stands at this place.
+    pub fn read_word_at(&self, place: usize, address: u32) -> u32
         requires aligned { address % 4 ≡ 0 }
-        requires way { way_of (line_of self.now.shape address) self.now.lines ≡ Some way }
+        requires place { place_of (line_of self.now.shape address) self.now ≡ Some place }
         ensures { result ≡ slice_index (words_of (line_of self.now.shape address) self.now.lines) (word_place self.now.shape address) }
     {
-        let line = address::line_of(&self.shape, address);
-        let place = places::place_in(&self.shape, &self.entries, line, way);
         let word = address::word_of(&self.shape, address);
         self.entries[place].cached.words.get(word)
     }
@@ -270,14 +270,14 @@ impl CacheArray {
             else words_of k self.old.lines) }
         ensures ways { (k : ℕ) → way_of k self.new.lines ≡ way_of k self.old.lines }
     {
-        let way = self.held_way(address::line_of(&self.shape, address));
-        self.write_word_in(way, address, word);
+        let place = self.held_place(address::line_of(&self.shape, address));
+        self.write_word_at(place, address, word);
     }
 
-    /// Writes the word at an address, whose line stands in this way of its set. The line keeps its mode and its place.
-    pub fn write_word_in(&mut self, way: u32, address: u32, word: u32)
+    /// Writes the word at an address, whose line stands at this place. The line keeps its mode and its place.
+    pub fn write_word_at(&mut self, place: usize, address: u32, word: u32)
         requires aligned { address % 4 ≡ 0 }
-        requires way { way_of (line_of self.old.shape address) self.old.lines ≡ Some way }
+        requires place { place_of (line_of self.old.shape address) self.old ≡ Some place }
         ensures after { self.new ≡ record self.old {
           lines = with_word (line_of self.old.shape address) (word_place self.old.shape address) word self.old.lines;
         } }
@@ -287,8 +287,6 @@ impl CacheArray {
             else words_of k self.old.lines) }
         ensures ways { (k : ℕ) → way_of k self.new.lines ≡ way_of k self.old.lines }
     {
-        let line = address::line_of(&self.shape, address);
-        let place = places::place_in(&self.shape, &self.entries, line, way);
         let at = address::word_of(&self.shape, address);
         self.entries[place].cached.words.set(at, word);
     }

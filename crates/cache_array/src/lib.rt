@@ -9,6 +9,7 @@ mod line;
 mod order;
 mod places;
 
+pub use address::line_of;
 pub use cache::{CacheArray, Found};
 pub use line::{CachedLine, CachedWords};
 

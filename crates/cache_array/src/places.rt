@@ -1,9 +1,9 @@
 //! Where lines stand: a search looks at the entries of one set.
-ghost use Rattle.std.specs.Prelude.{◌≡◌, ◌⊎◌, ◌+◌, ◌*◌, ◌<◌, ◌≤◌, length, not, false, Some, option_map, position};
+ghost use Rattle.std.specs.Prelude.{◌≡◌, ◌⊎◌, ◌+◌, ◌*◌, ◌<◌, ◌≤◌, length, not, false, option_map, position};
 ghost use Rattle.pmsi_model.specs.Phase.{set_lines, evicted};
 ghost use Rattle.pmsi_model.specs.Geometry.{IsGeometry, set_of};
 ghost use Rattle.pmsi_model.specs.Coherent.{HoldsEachOnce};
-ghost use Rattle.cache_array.specs.Cache.{Holds, held_of, way_of};
+ghost use Rattle.cache_array.specs.Cache.{Holds, held_of};
 ghost use Rattle.cache_array.specs.Entries.{lines_of, is_line, IsPlaced, IsPlaceOf, StandsAt, PutsAt, has_line, older, oldest_of};
 
 use crate::address;
@@ -53,18 +53,6 @@ pub fn held_place(shape: &Geometry, entries: &[Entry], line: u32) -> usize
         unreachable!()
     };
     place
-}
-
-/// The place of a line that stands in this way of its set.
-pub fn place_in(shape: &Geometry, entries: &[Entry], line: u32, way: u32) -> usize
-    requires shape { IsGeometry shape.now }
-    requires count { length entries.now ≡ shape.now.sets * shape.now.ways }
-    requires placed { IsPlaced shape.now 0 entries.now }
-    requires once { HoldsEachOnce (held_of (lines_of entries.now)) }
-    requires way { way_of line (lines_of entries.now) ≡ Some way }
-    ensures { StandsAt line result entries.now }
-{
-    first_of_set(shape, line) + way as usize
 }
 
 /// The first entry that holds no line.

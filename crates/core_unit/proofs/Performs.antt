@@ -1,12 +1,14 @@
 -- An access on the word of a cached line, as the code does it.
-use Rattle.std.proofs.Common.{◌≡◌, ℕ, ◌-◌, ◌%◌, ◌^◌, ◌<◌, List, get_or, sym, ap, ◌∙◌}
+use Rattle.std.proofs.Common.{◌≡◌, ℕ, ◌+◌, ◌-◌, ◌*◌, ◌%◌, ◌^◌, ◌<◌, List, get_or, sym, ap, ◌∙◌}
+use Rattle.std.specs.Option.{option_map}
 use Rattle.pmsi_model.specs.declared.Access.{Access}
+use Rattle.pmsi_model.specs.declared.job.Geometry.{Geometry}
 use Rattle.pmsi_model.specs.Words.{number_of, bytes_of}
-use Rattle.pmsi_model.specs.Geometry.{IsGeometry, line_of}
+use Rattle.pmsi_model.specs.Geometry.{IsGeometry, line_of, set_of}
 use Rattle.pmsi_model.specs.Access.{kind_of}
 use Rattle.pmsi_model.proofs.Bytes.{number_of-bytes_of}
 use Rattle.cache_array.specs.declared.line.CachedLine.{CachedLine}
-use Rattle.cache_array.specs.Cache.{words_of, word_place}
+use Rattle.cache_array.specs.Cache.{CacheValue, place_of, way_of, words_of, word_place}
 use Rattle.rv_exec.specs.Accesses.{bytes_after}
 use Rattle.core_unit.specs.declared.state.State.{State}
 use Rattle.core_unit.specs.State.{lines_after, lines_left, lines_with, met_in, performed, retired_on, with_lines}
@@ -43,3 +45,8 @@ performed_by access v w u word new shape read leaves fits retires after = after
     ∙ ap (λ (x : State). with_lines (lines_left access.op (access.address - access.address % 4) new x.cache) x) retires
     ∙ ap (λ (ls : List CachedLine). with_lines ls (retired_on access word v)) (left_at access v word new shape read leaves fits)
     ∙ ap (λ (m : ℕ). with_lines (lines_with access v.cache) (retired_on access m v)) (met_at access v word shape read)
+
+-- a line that keeps its way stands at its place
+pub place_kept : (line : ℕ) (c d : CacheValue) → d.shape ≡ c.shape → way_of line d.lines ≡ way_of line c.lines → place_of line d ≡ place_of line c
+place_kept line c d shape way = ap (λ (g : Geometry). option_map (λ (w : ℕ). set_of g line * g.ways + w) (way_of line d.lines)) shape
+    ∙ ap (option_map (λ (w : ℕ). set_of c.shape line * c.shape.ways + w)) way

@@ -7,7 +7,7 @@ ghost use Rattle.pmsi_model.specs.Instruction.{instr_of};
 ghost use Rattle.pmsi_model.specs.Job.{JobValue};
 ghost use Rattle.pmsi_model.specs.Machine.{is_modified, mode_of};
 ghost use Rattle.pmsi_model.specs.Phase.{can_run, effect_of_word, permits, victim_of};
-ghost use Rattle.cache_array.specs.Cache.{Holds, IsCache, held_of, others, way_of};
+ghost use Rattle.cache_array.specs.Cache.{Holds, IsCache, held_of, others, place_of};
 ghost use Rattle.rv_exec.specs.Effects.{IsAccessTo};
 ghost use Rattle.core_unit.specs.State.{KeepsWays, core_of, gone_for, lines_left, performed, wanting, with_lines, with_room};
 ghost use Rattle.core_unit.specs.Stands.{CanExecute, HasTouchRoom, SameRun, StandsAfter, StandsNext, TouchesAfter, TouchesNext};
@@ -16,6 +16,7 @@ ghost use Rattle.core_unit.specs.Phases.{IsInPhase};
 
 use crate::program::Fetched;
 use crate::state::State;
+use cache_array::line_of;
 use pmsi_model::{Access, AccessOp, Halt, Kind, Mode, Status, Want};
 use rv_exec::{Effect, exec};
 
@@ -30,23 +31,25 @@ impl State {
     }
 
     /// Leaves a word in the cache after an access to it: a store or an atomic operation writes it, a load leaves it as it is.
-    fn leave(&mut self, op: AccessOp, way: u32, address: u32, word: u32)
+    fn leave(&mut self, op: AccessOp, place: usize, address: u32, word: u32)
         requires aligned { address % 4 ≡ 0 }
-        requires way { way_of (line_of self.old.cache.shape address) self.old.cache.lines ≡ Some way }
+        requires place { place_of (line_of self.old.cache.shape address) self.old.cache ≡ Some place }
         ensures after { self.new ≡ with_lines (lines_left op address word self.old.cache) self.old }
         ensures ways { KeepsWays self.old.cache.lines self.new.cache.lines }
     {
         match op {
             AccessOp::Load(_) => {}
-            AccessOp::Store(_) | AccessOp::Amo(_) => self.cache.write_word_in(way, address, word),
+            AccessOp::Store(_) | AccessOp::Amo(_) => {
+                self.cache.write_word_at(place, address, word);
+            }
         }
     }
 
     /// Does an access on the word of the cached line, and retires its instruction.
-    fn perform(&mut self, access: Access, way: u32)
+    fn perform(&mut self, access: Access, place: usize)
         requires aligned { access.address % width_of access.op ≡ 0 }
         requires shape { IsGeometry self.old.cache.shape }
-        requires way { way_of (line_of self.old.cache.shape access.address) self.old.cache.lines ≡ Some way }
+        requires place { place_of (line_of self.old.cache.shape access.address) self.old.cache ≡ Some place }
         requires retires { self.old.retired + 1 < 2 ^ 64 }
         requires room { HasTouchRoom self.old }
         ensures after { self.new ≡ performed access self.old }
@@ -54,9 +57,9 @@ impl State {
     {
         let Access { op, address, .. } = access;
         let aligned = address - address % 4;
-        let met = self.cache.read_word_in(way, aligned);
+        let met = self.cache.read_word_at(place, aligned);
         let left = self.retire(access, met);
-        self.leave(op, way, aligned, left);
+        self.leave(op, place, aligned, left);
     }
 
     /// Whether the core holds a line modified.
@@ -70,15 +73,15 @@ impl State {
         }
     }
 
-    /// The way of a line for which an access of this kind has permission; none where it has to wait.
-    fn permitted_way(&self, kind: Kind, line: u32) -> Option<u32>
+    /// The place of a line for which an access of this kind has permission; none where it has to wait.
+    fn permitted_place(&self, kind: Kind, line: u32) -> Option<usize>
         ensures permits { is_some result ≡ permits kind (mode_of line (held_of self.now.cache.lines)) }
-        ensures way { IfSome result (λ way. way_of line self.now.cache.lines ≡ Some way) }
+        ensures place { IfSome result (λ place. place_of line self.now.cache ≡ Some place) }
         ensures cache { IsCache self.now.cache }
     {
         let found = self.cache.look_up(line)?;
         match (kind, found.mode) {
-            (Kind::Read, _) | (Kind::Write, Mode::Modified) => Some(found.way),
+            (Kind::Read, _) | (Kind::Write, Mode::Modified) => Some(found.place),
             (Kind::Write, Mode::Shared) => None,
         }
     }
@@ -125,56 +128,72 @@ impl State {
         });
     }
 
-    /// Does an access at once where it has permission; else the core gets a want.
-    fn access(&mut self, access: Access)
+    /// Does an access at once where it has permission; else the core gets a want. The answer is whether the core goes on.
+    fn access(&mut self, access: Access) -> bool
         requires ready { CanExecute self.old }
+        requires runs { can_run (core_of self.old) ≡ true }
         requires within { IsAccessTo self.old.shape.memory access }
+        ensures goes_on { result ≡ can_run (core_of self.new) }
         ensures same { SameRun self.old self.new }
         ensures stands { StandsAfter (λ job. MemoryEffect access) self.old self.new }
         ensures touched { TouchesAfter (λ job. MemoryEffect access) self.old self.new }
     {
-        let line = self.shape.line_of(access.address);
-        match self.permitted_way(access.op.kind(), line) {
-            Some(way) => {
-                self.perform(access, way);
-                self.cache.touch_in(way, line);
+        let line = line_of(&self.shape, access.address);
+        match self.permitted_place(access.op.kind(), line) {
+            Some(place) => {
+                self.perform(access, place);
+                self.cache.touch_at(place, line);
+                true
             }
-            None => self.miss(access, line),
+            None => {
+                self.miss(access, line);
+                false
+            }
         }
     }
 
-    /// Executes a fetched word.
-    fn execute(&mut self, fetched: Fetched)
-        requires { CanExecute self.old }
+    /// Executes a fetched word. The answer is whether the core goes on.
+    fn execute(&mut self, fetched: Fetched) -> bool
+        requires ready { CanExecute self.old }
+        requires runs { can_run (core_of self.old) ≡ true }
+        ensures goes_on { result ≡ can_run (core_of self.new) }
         ensures same { SameRun self.old self.new }
         ensures stands { StandsAfter (λ job. effect_of_word job.shape fetched (core_of self.old) (instr_of fetched)) self.old self.new }
         ensures touched { TouchesAfter (λ job. effect_of_word job.shape fetched (core_of self.old) (instr_of fetched)) self.old self.new }
     {
         let Some(instr) = fetched.instr() else {
             self.status = Status::Halted(Halt::Illegal(fetched.word()));
-            return;
+            return false;
         };
         match exec(instr, &mut self.regs, self.pc, self.shape.memory) {
             Effect::Next(pc) => {
                 self.pc = pc;
                 self.retired += 1;
+                true
             }
-            Effect::Stop(halt) => self.status = Status::Halted(halt),
+            Effect::Stop(halt) => {
+                self.status = Status::Halted(halt);
+                false
+            }
             Effect::Memory(access) => self.access(access),
         }
     }
 
-    /// Takes the instruction at the pc.
-    fn instruction(&mut self)
+    /// Takes the instruction at the pc. The answer is whether the core goes on.
+    fn instruction(&mut self) -> bool
         requires ready { CanExecute self.old }
         requires runs { can_run (core_of self.old) ≡ true }
+        ensures goes_on { result ≡ can_run (core_of self.new) }
         ensures same { SameRun self.old self.new }
         ensures stands { StandsNext self.old self.new }
         ensures touched { TouchesNext self.old self.new }
     {
         match self.text.fetch((self.pc / 4) as usize) {
             Some(fetched) => self.execute(fetched),
-            None => self.status = Status::Halted(Halt::FetchRange(self.pc)),
+            None => {
+                self.status = Status::Halted(Halt::FetchRange(self.pc));
+                false
+            }
         }
     }
 
@@ -184,11 +203,13 @@ impl State {
         ensures taken { (job : JobValue) (slot c : ℕ) → slot < job.shape.slots → IsPart job slot c self.old → IsInPhase job slot c job.shape.quantum self.new }
         ensures keeps { self.new.keeps ≡ self.old.keeps }
     {
+        if !self.can_run() {
+            return;
+        }
         for _ in 0..self.shape.quantum {
-            if !self.can_run() {
+            if !self.instruction() {
                 return;
             }
-            self.instruction();
         }
     }
 

@@ -1,35 +1,42 @@
 use Rattle.std.proofs.Common.{◌≡◌, ℕ, Option, Some, IfSome, is_some, ◌∙◌, ap, subst, sym}
+use Rattle.pmsi_model.specs.Geometry.{IsGeometry}
 use Rattle.pmsi_model.specs.Machine.{mode_of}
 use Rattle.pmsi_model.specs.Phase.{permits}
-use Rattle.cache_array.specs.Cache.{held_of, way_of}
+use Rattle.cache_array.specs.Cache.{held_of, place_of}
+use Rattle.core_unit.specs.declared.state.State.{State}
+use Rattle.core_unit.proofs.Performs.{place_kept}
 use Rattle.core_unit.proofs.Steps.{access_hits, access_misses}
 use Rattle.core_unit.proofs.Touches.{touches_hit, touches_miss}
 use Rattle.core_unit.proofs.state.State.access.Goals as goal
 
-pub touch_in-requires : goal.touch_in-requires
-touch_in-requires c = let lines = c.args.self.now.cache.lines in let line = c.line_of-line.result in
-    c.perform.ensures.ways line ∙ subst (λ (o : Option ℕ). IfSome o (λ way. way_of line lines ≡ Some way)) c.in-Some.is c.permitted_way.ensures.way
+pub line_of-line-requires : goal.line_of-line-requires
+line_of-line-requires c = subst IsGeometry (sym c.requires.ready.carries.shape) c.requires.ready.carries.within.shape
+
+pub touch_at-requires : goal.touch_at-requires
+touch_at-requires c = let cache = c.args.self.now.cache in let line = c.line_of-line.result in
+    place_kept line cache c.perform.new.self.cache (ap (λ (v : State). v.cache.shape) c.perform.ensures.after) (c.perform.ensures.ways line)
+    ∙ subst (λ (o : Option ℕ). IfSome o (λ place. place_of line cache ≡ Some place)) c.in-Some.is c.permitted_place.ensures.place
 
 pub returns-in-Some-clause-stands : goal.returns-in-Some-clause-stands
 returns-in-Some-clause-stands c = λ job c' memory s.
-    access_hits job c' memory c.args.self.now c.perform.new.self c.touch_in.new.self c.line_of-line.result c.args.access s c.requires.within c.line_of-line.ensures
-    (ap (λ k. permits k (mode_of c.line_of-line.result (held_of c.args.self.now.cache.lines))) (sym c.kind.ensures) ∙ sym c.permitted_way.ensures.permits ∙ ap is_some c.in-Some.is)
-    c.perform.ensures.after c.touch_in.ensures.after
+    access_hits job c' memory c.args.self.now c.perform.new.self c.touch_at.new.self c.line_of-line.result c.args.access s c.requires.within c.line_of-line.ensures
+    (ap (λ k. permits k (mode_of c.line_of-line.result (held_of c.args.self.now.cache.lines))) (sym c.kind.ensures) ∙ sym c.permitted_place.ensures.permits ∙ ap is_some c.in-Some.is)
+    c.perform.ensures.after c.touch_at.ensures.after
 
 pub returns-in-Some-clause-touched : goal.returns-in-Some-clause-touched
 returns-in-Some-clause-touched c = λ job c' memory s.
     touches_hit job c' memory c.args.self.now c.perform.new.self c.line_of-line.result c.args.access s c.requires.within c.line_of-line.ensures
-    (ap (λ k. permits k (mode_of c.line_of-line.result (held_of c.args.self.now.cache.lines))) (sym c.kind.ensures) ∙ sym c.permitted_way.ensures.permits ∙ ap is_some c.in-Some.is)
+    (ap (λ k. permits k (mode_of c.line_of-line.result (held_of c.args.self.now.cache.lines))) (sym c.kind.ensures) ∙ sym c.permitted_place.ensures.permits ∙ ap is_some c.in-Some.is)
     c.perform.ensures.after
 
 pub returns-in-None-clause-stands : goal.returns-in-None-clause-stands
 returns-in-None-clause-stands c = λ job c' memory s.
     access_misses job c' memory c.args.self.now c.miss.new.self c.line_of-line.result c.args.access s c.requires.within c.line_of-line.ensures
-    (ap (λ k. permits k (mode_of c.line_of-line.result (held_of c.args.self.now.cache.lines))) (sym c.kind.ensures) ∙ sym c.permitted_way.ensures.permits ∙ ap is_some c.in-None.is)
+    (ap (λ k. permits k (mode_of c.line_of-line.result (held_of c.args.self.now.cache.lines))) (sym c.kind.ensures) ∙ sym c.permitted_place.ensures.permits ∙ ap is_some c.in-None.is)
     c.miss.ensures
 
 pub returns-in-None-clause-touched : goal.returns-in-None-clause-touched
 returns-in-None-clause-touched c = λ job c' memory s.
     touches_miss job c' memory c.args.self.now c.miss.new.self c.line_of-line.result c.args.access s c.line_of-line.ensures
-    (ap (λ k. permits k (mode_of c.line_of-line.result (held_of c.args.self.now.cache.lines))) (sym c.kind.ensures) ∙ sym c.permitted_way.ensures.permits ∙ ap is_some c.in-None.is)
+    (ap (λ k. permits k (mode_of c.line_of-line.result (held_of c.args.self.now.cache.lines))) (sym c.kind.ensures) ∙ sym c.permitted_place.ensures.permits ∙ ap is_some c.in-None.is)
     c.miss.ensures
