@@ -2,7 +2,7 @@
 
 -- ---- the facts of all cores, at boundaries and within a slot
 pub use Rattle.coherence_laws.proofs.Fine.{FineCore, at_some, no_victim}
-pub use Rattle.coherence_laws.proofs.Whole.{IsWhole, IsLess, whole_later}
+pub use Rattle.coherence_laws.proofs.Whole.{IsWhole, IsLess, whole_coherent, whole_later}
 pub use Rattle.coherence_laws.proofs.Phases.{instructions_kept}
 pub use Rattle.coherence_laws.proofs.Acts.{post_whole, fill_whole, back_whole}
 pub use Rattle.coherence_laws.proofs.Slots.{kind_named, unposted_now, nobody_at_all, post_fill_whole, whole_at, phases_at, phases_coherent, stays_coherent}

@@ -2,13 +2,23 @@ use Rattle.std.proofs.Common.{◌≡◌, ℕ, Option, Some, IfSome, is_some, ◌
 use Rattle.pmsi_model.specs.Machine.{mode_of}
 use Rattle.pmsi_model.specs.Phase.{permits}
 use Rattle.cache_array.specs.Cache.{held_of, way_of}
-use Rattle.core_unit.proofs.Steps.{access_hits, access_misses}
+use Rattle.core_unit.proofs.Steps.{access_hits, access_misses, can_miss, gone_chosen, hit_run, missed_run}
 use Rattle.core_unit.proofs.Touches.{touches_hit, touches_miss}
 use Rattle.core_unit.proofs.state.State.access.Goals as goal
 
 pub touch_in-requires : goal.touch_in-requires
 touch_in-requires c = let lines = c.args.self.now.cache.lines in let line = c.line_of-line.result in
     c.perform.ensures.ways line ∙ subst (λ (o : Option ℕ). IfSome o (λ way. way_of line lines ≡ Some way)) c.in-Some.is c.permitted_way.ensures.way
+
+pub miss-requires-clause-room : goal.miss-requires-clause-room
+miss-requires-clause-room c = can_miss c.args.self.now c.args.access c.requires.ready c.line_of-line.result c.line_of-line.ensures
+
+pub returns-in-Some-clause-same : goal.returns-in-Some-clause-same
+returns-in-Some-clause-same c = hit_run c.line_of-line.result c.args.access c.args.self.now c.perform.new.self c.touch_in.new.self
+    c.perform.ensures.after c.touch_in.ensures.after
+
+pub returns-in-None-clause-same : goal.returns-in-None-clause-same
+returns-in-None-clause-same c = missed_run c.args.self.now c.args.access c.requires.ready c.line_of-line.result c.line_of-line.ensures c.miss.new.self c.miss.ensures
 
 pub returns-in-Some-clause-stands : goal.returns-in-Some-clause-stands
 returns-in-Some-clause-stands c = λ job c' memory s.
@@ -26,7 +36,7 @@ pub returns-in-None-clause-stands : goal.returns-in-None-clause-stands
 returns-in-None-clause-stands c = λ job c' memory s.
     access_misses job c' memory c.args.self.now c.miss.new.self c.line_of-line.result c.args.access s c.requires.within c.line_of-line.ensures
     (ap (λ k. permits k (mode_of c.line_of-line.result (held_of c.args.self.now.cache.lines))) (sym c.kind.ensures) ∙ sym c.permitted_way.ensures.permits ∙ ap is_some c.in-None.is)
-    c.miss.ensures
+    (gone_chosen c.args.self.now c.args.access c.requires.ready c.line_of-line.result c.line_of-line.ensures) c.miss.ensures
 
 pub returns-in-None-clause-touched : goal.returns-in-None-clause-touched
 returns-in-None-clause-touched c = λ job c' memory s.

@@ -14,7 +14,7 @@ instruction-requires-clause-ready c = can_execute c.requires.job c.args.self.now
 pub loop-preserved : goal.loop-preserved
 loop-preserved c = record {
   phase = λ job slot k more part. takes_one job slot k c.loop.counter c.loop.self c.instruction.new.self (c.loop.invariant.phase job slot k more part)
-      (subst (λ (g : Geometry). c.loop.counter < g.quantum) part.in_slot.stands.carries.shape c.loop-test.true) c.instruction.ensures.same c.instruction.ensures.stands c.instruction.ensures.touched;
+      (subst (λ (g : Geometry). c.loop.counter < g.quantum) part.in_slot.stands.carries.shape c.loop-test.true) (sym c.can_run.ensures ∙ c.if-not-can_run.false) c.instruction.ensures.same c.instruction.ensures.stands c.instruction.ensures.touched;
   keeps = c.instruction.ensures.same.keeps ∙ c.loop.invariant.keeps;
 }
 
