@@ -6,6 +6,7 @@ pub use Rattle.cache_ctrl.proofs.Settled.{IsSettled, settled_of, behind_unheld}
 pub use Rattle.cache_ctrl.proofs.Others.{noted_done, other_posts, other_posts_else, other_fills}
 -- ---- the core's own request is posted, or filled
 pub use Rattle.cache_ctrl.proofs.Own.{want_request, own_posts, own_posts_else}
+pub use Rattle.cache_ctrl.proofs.Behind.{has_behind_first}
 pub use Rattle.cache_ctrl.proofs.Fills.{fill_duty, filled_backs, filled_state, own_fills, own_fills_else}
 -- ---- a line is written back
 pub use Rattle.cache_ctrl.proofs.Own.{waiting_state, writes_back, writes_back_else}

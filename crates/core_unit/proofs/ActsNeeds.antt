@@ -1,46 +1,48 @@
--- What the service of a request needs: room in the cache, among the lines to write back, and among the claimed ones.
-use Rattle.std.proofs.Common.{◌≡◌, ◌≢◌, ◌⊎◌, ℕ, ◌+◌, ◌*◌, ◌%◌, ◌<◌, ◌≤◌, List, [], ◌∷◌, length, length-append, Some, None, false, refl, sym, ap, ◌∙◌, subst, inl, inr, arith}
+-- What the service of a request needs: room in the cache, and among the lines to write back.
+use Rattle.std.proofs.Common.{◌≡◌, ◌≢◌, ◌⊎◌, ℕ, ◌+◌, ◌*◌, ◌%◌, ◌<◌, ◌≤◌, List, [], ◌∷◌, length, length-append, Some, None, refl, sym, ap, ◌∙◌, subst, inl, inr, arith}
 use Rattle.std.specs.Option.{option_map}
 use Rattle.pmsi_model.specs.declared.job.Geometry.{Geometry}
-use Rattle.pmsi_model.specs.declared.Behind.{Behind}
-use Rattle.pmsi_model.specs.declared.Behind.TheVariants.{Nobody, Reads, Write as WriteBehind}
-use Rattle.pmsi_model.specs.declared.Kind.{Kind}
-use Rattle.pmsi_model.specs.declared.Kind.TheVariants.{Read, Write}
 use Rattle.pmsi_model.specs.declared.Want.{Want}
 use Rattle.pmsi_model.specs.Access.{width_of}
 use Rattle.pmsi_model.specs.Geometry.{IsGeometry}
 use Rattle.pmsi_model.specs.Job.{JobValue}
 use Rattle.pmsi_model.specs.Slots.{plan_of, owner_of_slot}
-use Rattle.pmsi_model.specs.Machine.{Machine, CoreState, mode_of, has_line}
+use Rattle.pmsi_model.specs.Machine.{Machine, CoreState, mode_of}
 use Rattle.pmsi_model.specs.Phase.{set_lines}
 use Rattle.pmsi_model.specs.Bus.{post_at}
 use Rattle.coherence_laws.proofs.Exports.{backs_fewer, FineCore, IsWhole}
+use Rattle.cache_ctrl.specs.declared.Duty.{Duty}
+use Rattle.cache_ctrl.specs.declared.Duty.TheVariants.{Nothing, Append, DropCopy}
+use Rattle.cache_ctrl.specs.declared.Event.TheVariants.{OwnFill}
+use Rattle.cache_ctrl.specs.Duties.{backs_by}
+use Rattle.cache_array.specs.declared.line.CachedLine.{CachedLine}
 use Rattle.cache_array.specs.Cache.{Holds as IsHeld, held_of}
 use Rattle.core_unit.specs.declared.state.State.{State}
-use Rattle.core_unit.specs.State.{asked, backs_filled, core_of, served}
-use Rattle.core_unit.specs.Stands.{CanServe, CanTake}
+use Rattle.core_unit.specs.Changes.{CanChange, duty_in, next_for}
+use Rattle.core_unit.specs.State.{asked, core_of, served}
+use Rattle.core_unit.specs.Stands.{CanServe}
 use Rattle.core_unit.specs.Parts.{HasRows, HasTouches}
 use Rattle.core_unit.proofs.ActsRows.{row_fits}
 use Rattle.core_unit.proofs.ActsTouches.{touches_before, want_fits, want_retires}
 use Rattle.core_unit.proofs.Snoops.{IsCoreIn}
-use Rattle.core_unit.proofs.SnoopsClaims.{claims_fit}
+use Rattle.core_unit.proofs.States.{asked_lines}
 use Rattle.core_unit.proofs.Steps.{either}
 
-backs_grow : (kind : Kind) (behind : Behind) (line : ℕ) (lines : List ℕ) → length lines ≤ length (backs_filled kind behind line lines)
-backs_grow Read behind line lines = omega arith
-backs_grow Write Nobody line lines = omega arith
-backs_grow Write Reads line lines = omega (arith, length-append lines (line ∷ []))
-backs_grow Write WriteBehind line lines = omega (arith, length-append lines (line ∷ []))
+backs_grow : (duty : Duty) (line : ℕ) (lines : List ℕ) → length lines ≤ length (backs_by duty line lines)
+backs_grow Nothing line lines = omega arith
+backs_grow Append line lines = omega (arith, length-append lines (line ∷ []))
+backs_grow DropCopy line lines = omega arith
 
 -- once a request is served its core wants nothing, so there was room among its lines to write back
-pub backs_room : (job : JobValue) (s c : ℕ) (z : Machine) (want : Want) (words : List ℕ) (post : ℕ) (behind : Behind) (v : State)
+pub backs_room : (job : JobValue) (s c : ℕ) (z : Machine) (want : Want) (words : List ℕ) (post : ℕ) (v : State)
     → IsWhole job.shape s z.posted z.cores → c < job.shape.cores
-    → IsCoreIn job c z (served want words post behind v) → length v.pending.write_backs < job.shape.cores
-backs_room job s c z want words post behind v w below h =
-    let fewer : length (backs_filled want.kind behind want.line v.pending.write_backs) < job.shape.cores =
-    backs_fewer job.shape s z.posted z.cores c (core_of (served want words post behind v)) w
+    → IsCoreIn job c z (served want words post v) → length v.pending.write_backs < job.shape.cores
+backs_room job s c z want words post v w below h =
+    let duty : Duty = duty_in (next_for OwnFill want.line v) in
+    let fewer : length (backs_by duty want.line v.pending.write_backs) < job.shape.cores =
+    backs_fewer job.shape s z.posted z.cores c (core_of (served want words post v)) w
     (subst (λ (k : CoreState). FineCore job.shape s z.posted c k) h.stands.core (w.fine c)) below refl in
-    let more = backs_grow want.kind behind want.line v.pending.write_backs in omega arith
+    let more = backs_grow duty want.line v.pending.write_backs in omega arith
 
 -- a want that is served, of a core in an own slot
 pub record IsNeeded (job : JobValue) (slot c : ℕ) (y : Machine) (want : Want) (words : List ℕ) (v : State) : Type 0 where
@@ -52,8 +54,6 @@ pub record IsNeeded (job : JobValue) (slot c : ℕ) (y : Machine) (want : Want) 
   pub free : want.victim ≡ None
   pub aligned : want.access.address % width_of want.access.op ≡ 0
   pub count : length words ≡ job.shape.line_words
-  pub unlisted : has_line want.line v.pending.write_backs ≡ false
-  pub backs : length v.pending.write_backs < job.shape.cores
   pub rows : HasRows job slot c v
   pub touched : HasTouches job (touches_before job slot c) ((slot + 1) * job.shape.quantum) v
 
@@ -71,19 +71,14 @@ module _ (job : JobValue) (slot c : ℕ) (y : Machine) (want : Want) (words : Li
       (either (λ held. inl held) (λ else_. either (λ few. inr few) (λ victim. absurd (victim n.free)) else_)
       ((n.whole.fine c).want_fine want n.wants).has_room))
 
-  pub takes : CanTake want words v
-  takes = record {
-    cache = n.core_in.stands.carries.cache ∙ sym n.core_in.stands.carries.shape;
-    count = n.count ∙ ap (λ (g : Geometry). g.line_words) (sym n.core_in.stands.carries.shape);
-    fits = fits;
-    backs = λ writes. (let backs = n.backs in let cores = n.core_in.stands.carries.cores in omega arith);
-    unqueued = λ writes has. (let none = n.unlisted in absurd (grind arith));
-    claims = λ writes. (let backs = n.backs in let few = claims_fit y.posted v n.core_in.once n.core_in.claims in let most = shape.cores in omega arith);
-  }
-
-  pub serves : CanServe want words v
-  serves = record {
-    takes = takes;
+  pub serves : CanChange OwnFill want.line v → CanServe want words v
+  serves changes = record {
+    takes = record {
+      cache = n.core_in.stands.carries.cache ∙ sym n.core_in.stands.carries.shape;
+      count = n.count ∙ ap (λ (g : Geometry). g.line_words) (sym n.core_in.stands.carries.shape);
+      fits = fits;
+      changes = changes;
+    };
     shape = subst IsGeometry (sym n.core_in.stands.carries.shape) shape;
     aligned = n.aligned;
     retires = want_retires job slot (touches_before job slot c) v want n.core_in.stands.carries.within n.more wanted n.touched;
@@ -97,13 +92,18 @@ module _ (job : JobValue) (slot c : ℕ) (y : Machine) (want : Want) (words : Li
       absurd (grind arith)
 
   -- also once its request is posted
-  pub serves_asked : CanServe want words (asked v)
-  serves_asked = record {
-    takes = record { cache = takes.cache; count = takes.count; fits = takes.fits; backs = takes.backs; unqueued = takes.unqueued; claims = takes.claims };
-    shape = serves.shape;
-    aligned = serves.aligned;
-    retires = serves.retires;
-    rows = serves.rows;
-    touches = serves.touches;
+  pub serves_asked : CanChange OwnFill want.line (asked want v) → CanServe want words (asked want v)
+  serves_asked changes = record {
+    takes = record {
+      cache = n.core_in.stands.carries.cache ∙ sym n.core_in.stands.carries.shape;
+      count = n.count ∙ ap (λ (g : Geometry). g.line_words) (sym n.core_in.stands.carries.shape);
+      fits = subst (λ (lines : List CachedLine). IsHeld want.line lines ⊎ (length (set_lines v.shape want.line (held_of lines)) < v.shape.ways)) (sym (asked_lines want v)) fits;
+      changes = changes;
+    };
+    shape = subst IsGeometry (sym n.core_in.stands.carries.shape) shape;
+    aligned = n.aligned;
+    retires = want_retires job slot (touches_before job slot c) v want n.core_in.stands.carries.within n.more wanted n.touched;
+    rows = row_fits job slot c v v n.own n.rows n.more;
+    touches = want_fits job slot (touches_before job slot c) v want n.core_in.stands.carries.within n.more wanted n.touched;
     wanted = asked_wants;
   }

@@ -4,7 +4,6 @@ use Rattle.std.specs.Option.{unwrap_or}
 use Rattle.pmsi_model.specs.declared.job.Geometry.{Geometry}
 use Rattle.pmsi_model.specs.declared.Action.{Action}
 use Rattle.pmsi_model.specs.declared.Action.TheVariants.{Idle, Post, Fill, PostFill, Back}
-use Rattle.pmsi_model.specs.declared.Behind.TheVariants.{Nobody}
 use Rattle.pmsi_model.specs.declared.Kind.{Kind}
 use Rattle.pmsi_model.specs.declared.Mode.TheVariants.{Modified}
 use Rattle.pmsi_model.specs.declared.Name.{Name}
@@ -12,12 +11,12 @@ use Rattle.pmsi_model.specs.declared.Touch.{Touch}
 use Rattle.pmsi_model.specs.declared.Want.{Want}
 use Rattle.pmsi_model.specs.Job.{JobValue, IsJob}
 use Rattle.pmsi_model.specs.Slots.{SlotPlan, plan_of, owner_of_slot}
-use Rattle.pmsi_model.specs.Machine.{Machine, CoreState, Request, mode_of, mode_in, first_of, has_line, nobody_owns, owner_of, removed, request_of}
+use Rattle.pmsi_model.specs.Machine.{Machine, CoreState, Request, mode_of, mode_in, first_of, nobody_owns, owner_of, request_of}
 use Rattle.pmsi_model.specs.Phase.{Context, context_of, met_bytes, touches_by}
 use Rattle.pmsi_model.specs.Bus.{action_of, after_action, clear_victim, fill, is_core, is_served, keeps_line, kind_of_name, name_of, post, post_at, requests_now}
-use Rattle.pmsi_model.specs.Coherent.{ListsEachOnce, posted_request}
+use Rattle.pmsi_model.specs.Coherent.{posted_request}
 use Rattle.pmsi_model.specs.Run.{action_touch, after_phases, machine_at, want_touch}
-use Rattle.pmsi_model.specs.Shared.{SharedValue, BusSide, CanFill, CanPost, CanWriteBack, IsLine, behind_in, is_ready, line_in, posted_in, side_filled, side_idle, side_posted}
+use Rattle.pmsi_model.specs.Shared.{SharedValue, BusSide, CanFill, CanPost, CanWriteBack, IsLine, is_ready, line_in, posted_in, side_filled, side_idle, side_posted}
 use Rattle.pmsi_model.specs.Parts.{IsBusPart, IsSharedOf}
 use Rattle.pmsi_model.proofs.Cases.{by_test}
 use Rattle.coherence_laws.proofs.Exports.{fill_whole, IsAsked, no_victim, kind_named, nobody_at_all, phases_at, post_fill_whole, IsWhole}
@@ -28,32 +27,29 @@ use Rattle.cache_array.specs.Cache.{Holds as IsHeld, held_of, words_of}
 use Rattle.rv_exec.specs.Accesses.{covered}
 use Rattle.core_unit.specs.declared.state.State.{State}
 use Rattle.core_unit.specs.State.{asked, backed, core_of, fills_at_once, keeps, met_among, name_for, posted_state, row_for, served, stepped, touch_on, with_touch}
-use Rattle.core_unit.specs.Stands.{StandsFor}
-use Rattle.core_unit.specs.Parts.{CanAct, HasRows, IsPart, IsPartAfter, KnowsClaims, own_touches}
+use Rattle.core_unit.specs.Stands.{KnowsStates, StandsFor}
+use Rattle.core_unit.specs.Parts.{CanAct, HasRows, IsPart, IsPartAfter, own_touches}
 use Rattle.core_unit.specs.Acts.{CanBack, CanFillFor, CanPostFor, CanRequest, IsActed, IsBacked, IsFilled, IsPosted, IsRequested}
-use Rattle.core_unit.proofs.ActsBacks.{IsWritable, back_backed, keeps_is}
+use Rattle.core_unit.proofs.ActsBacks.{IsWritable, back_backed, back_changes, keeps_is}
 use Rattle.core_unit.proofs.ActsCopies.{AreWords}
-use Rattle.core_unit.proofs.ActsFills.{IsServable, fill_served, met_now, wanted_unlisted}
+use Rattle.core_unit.proofs.ActsFills.{IsServable, fill_changes, fill_served, met_now}
 use Rattle.core_unit.proofs.ActsNeeds.{IsNeeded, backs_room, serves, serves_asked}
-use Rattle.core_unit.proofs.ActsPosts.{IsPostable, met_then, post_asked, post_served, unlisted}
+use Rattle.core_unit.proofs.ActsPosts.{IsPostable, filled_changes, met_then, post_asked, post_changes, post_served}
 use Rattle.core_unit.proofs.ActsRows.{rows_grow, rows_stay, served_row}
 use Rattle.core_unit.proofs.ActsTouches.{IsTouched, acted_own, ended_touches, served_touched, still_standing, touches_after, touches_before, touched_none}
-use Rattle.core_unit.proofs.Carried.{carried, claims_carried}
+use Rattle.core_unit.proofs.Carried.{carried, knows_carried}
+use Rattle.core_unit.proofs.Changed.{first_served}
 use Rattle.core_unit.proofs.Snoops.{IsCoreIn}
-use Rattle.core_unit.proofs.SnoopsSlots.{stands_stepped}
+use Rattle.core_unit.proofs.SnoopsSlots.{knows_stepped, stands_stepped}
 use Rattle.core_unit.proofs.Sides.{IsBackable, asked_below, line_within}
 use Rattle.core_unit.proofs.SidesNext as side
-use Rattle.core_unit.proofs.SidesReady.{action_fills, action_posts, action_backs, action_idles, choice_backs, choice_idles, choice_requests, free_now, no_request, ready_posted, wants_now}
+use Rattle.core_unit.proofs.SidesReady.{action_fills, action_posts, action_backs, action_idles, choice_backs, choice_idles, choice_requests, free_now, ready_posted, served_now, wants_now}
 
 -- the core of a job whose slot it is, by its number and plan
 pub owner_is : (job : JobValue) (slot c : ℕ) (v : State) (b : BusSide) → CanAct v b → IsPartAfter job slot c v → owner_of_slot (plan_of job) slot ≡ c
 owner_is job slot c v b can p = let mine = p.in_slot.stands.carries in let theirs = can.part.in_slot.stands.carries in
     ap (λ (plan : SlotPlan). owner_of_slot plan slot) (sym mine.plan ∙ theirs.plan) ∙ ap (owner_of_slot (plan_of can.job)) (sym p.in_slot.now) ∙ can.own
     ∙ sym theirs.number ∙ mine.number
-
-first_is : (c : ℕ) (o : Option ℕ) (b : Bool) → (is_core c o && b) ≡ true → o ≡ Some c
-first_is c None b is = absurd (grind arith)
-first_is c (Some d) b is = let same : d ≡ c = grind arith in ap (λ (n : ℕ). Some n) same
 
 second_is : (a b : Bool) → (a && b) ≡ true → b ≡ true
 second_is true b is = is
@@ -66,7 +62,7 @@ posted_keeps : (c line : ℕ) (name : Name) (b : BusSide) → (side_posted c lin
 posted_keeps c line name b = grind arith
 
 posted_kept : (want : Want) (v : State) (m : SharedValue) → (posted_state want m v).keeps ≡ v.keeps
-posted_kept want v m = by_test (λ (w : State). w.keeps ≡ v.keeps) (fills_at_once want m v) (served want (line_in m want.line) v.slot Nobody (asked v)) (asked v)
+posted_kept want v m = by_test (λ (w : State). w.keeps ≡ v.keeps) (fills_at_once want m v) (served want (line_in m want.line) v.slot (asked want v)) (asked want v)
     (λ filled. refl) (λ waits. refl)
 
 -- what the core and the bus keep stays
@@ -89,7 +85,7 @@ module _ (job : JobValue) (slot c : ℕ) (v : State) (b : BusSide) (p : IsPartAf
   is = p.in_slot.stands.carries.within
 
   core_in : IsCoreIn job c y v
-  core_in = record { stands = carried job slot c v p; claims = claims_carried job slot c v p; once = p.in_slot.once }
+  core_in = record { stands = carried job slot c v p; knows = knows_carried job slot c v p }
 
   core : y.cores c ≡ core_of v
   core = core_in.stands.core
@@ -153,8 +149,8 @@ module _ (job : JobValue) (slot c : ℕ) (v : State) (b : BusSide) (p : IsPartAf
     in_slot = record {
       stands = stands_stepped job c (context_of (machine_at job (slot + 1)) c) w
           (subst (λ (x : Context). StandsFor job c x w) (sym (side.next_context job slot c c action own acted)) h.stands);
-      claims = subst (λ (posted : List Request). KnowsClaims posted w) (sym (side.next_posted job slot c action own acted)) h.claims;
-      once = h.once;
+      knows = knows_stepped (machine_at job (slot + 1)).posted c w
+          (subst (λ (posted : List Request). KnowsStates posted c w) (sym (side.next_posted job slot c action own acted)) h.knows);
       now = ap (λ (n : ℕ). n + 1) (same ∙ p.in_slot.now);
       within = (let more = p.more in omega arith);
       rows = record { rows = rows.rows; few = rows.few; room = rows.room };
@@ -186,21 +182,19 @@ module _ (job : JobValue) (slot c : ℕ) (v : State) (b : BusSide) (p : IsPartAf
     size : length (words_of line v.cache.lines) ≡ job.shape.line_words
     size = core_in.stands.carries.agree.sizes line held
 
-    pub can_back : CanBack line v b.memory
+    writable : IsWritable job (slot + 1) y c line lines v
+    writable = record { whole = whole; core_in = core_in; first = first; held = held }
+
+    pub can_back : CanBack line lines v b.memory
     can_back = record {
       held = held;
+      changes = back_changes job (slot + 1) y c line lines v writable;
       can = subst (λ (d : ℕ). CanWriteBack d line (words_of line v.cache.lines) b.memory) (sym number)
           (side.can_back job slot c b is q p.more own line lines (words_of line v.cache.lines) (backs_core (line ∷ lines) first) size);
     }
 
-    lists_once : has_line line lines ≡ false
-    lists_once = (subst (λ (backs : List ℕ). ListsEachOnce backs) (backs_core (line ∷ lines) first) (whole.fine c).back_once).0
-
-    writable : IsWritable job y c line lines v
-    writable = record { core_in = core_in; first = first; lists = lists_once; held = held }
-
     keeps_line_is : keeps line v ≡ keeps_line y c line
-    keeps_line_is = keeps_is job y c line lines v writable ∙ sym (side.first_kept job slot c b is q p.more own line lines (backs_core (line ∷ lines) first))
+    keeps_line_is = keeps_is job (slot + 1) y c line lines v writable
 
     backable : IsBackable job y c line (words_of line v.cache.lines)
     backable = side.backable job slot c b is q p.more own line lines (words_of line v.cache.lines) (backs_core (line ∷ lines) first)
@@ -212,7 +206,7 @@ module _ (job : JobValue) (slot c : ℕ) (v : State) (b : BusSide) (p : IsPartAf
 
     back_part : requests_now job y c ≡ false → IsPart job (slot + 1) c (stepped (backed line lines v))
     unfolding after_action
-    back_part waits = next_part (Back line (keeps line v)) (backed line lines v) (acts_back waits) (back_backed job y c line lines v writable) refl
+    back_part waits = next_part (Back line (keeps line v)) (backed line lines v) (acts_back waits) (back_backed job (slot + 1) y c line lines v writable) refl
         (touched_none v (backed line lines v) refl refl refl (still_standing (clear_victim line) v.pending.want))
         (rows_stay job slot c v (backed line lines v) own p.in_slot.rows (Back line (keeps line v)) (acts_back waits) refl refl)
 
@@ -248,9 +242,8 @@ module _ (job : JobValue) (slot c : ℕ) (v : State) (b : BusSide) (p : IsPartAf
       within = extent;
     }
 
-    needed : want.victim ≡ None → has_line want.line v.pending.write_backs ≡ false → length v.pending.write_backs < job.shape.cores
-        → IsNeeded job slot c y want (line_in b.memory want.line) v
-    needed free absent room = record {
+    needed : want.victim ≡ None → IsNeeded job slot c y want (line_in b.memory want.line) v
+    needed free = record {
       whole = whole;
       core_in = core_in;
       own = own;
@@ -259,8 +252,6 @@ module _ (job : JobValue) (slot c : ℕ) (v : State) (b : BusSide) (p : IsPartAf
       free = free;
       aligned = asked_want.fit.aligned;
       count = side.want_length job slot c b is q p.more own want mine;
-      unlisted = absent;
-      backs = room;
       rows = p.in_slot.rows;
       touched = p.touches;
     }
@@ -289,6 +280,7 @@ module _ (job : JobValue) (slot c : ℕ) (v : State) (b : BusSide) (p : IsPartAf
         wants = mine;
         posted = posted;
         asked = asked_want;
+        first = first_served c (first_of want.line y.posted) (nobody_owns y job.shape.cores want.line) (served_now job y c want mine asks posted);
         nobody = nobody;
         read = reads (side.fill_unowned job slot c b is q p.more own want asks mine posted);
       }
@@ -296,7 +288,7 @@ module _ (job : JobValue) (slot c : ℕ) (v : State) (b : BusSide) (p : IsPartAf
       filled_whole : IsWhole job.shape (slot + 1) (fill y c).posted (fill y c).cores
       filled_whole = fill_whole job.shape (slot + 1) y c want whole below mine posted (nobody_at_all job.shape (slot + 1) y want.line whole nobody)
 
-      filled_core_in : IsCoreIn job c (fill y c) (served want (line_in b.memory want.line) at (behind_in want.line (removed c y.posted)) v)
+      filled_core_in : IsCoreIn job c (fill y c) (served want (line_in b.memory want.line) at v)
       filled_core_in = fill_served job (slot + 1) y c want (line_in b.memory want.line) v servable at
 
       fill_free : want.victim ≡ None
@@ -305,35 +297,28 @@ module _ (job : JobValue) (slot c : ℕ) (v : State) (b : BusSide) (p : IsPartAf
       can_fill_for : CanFillFor want v b.memory
       can_fill_for = record {
         can = subst (λ (d : ℕ). CanFill d want.line b.memory) (sym number) (side.can_fill job slot c b is q p.more own want asks mine posted);
-        serve = serves job slot c y want (line_in b.memory want.line) v
-            (needed fill_free (wanted_unlisted job (slot + 1) y c want (line_in b.memory want.line) v servable)
-            (backs_room job (slot + 1) c (fill y c) want (line_in b.memory want.line) at
-            (behind_in want.line (removed c y.posted)) v filled_whole below filled_core_in));
+        serve = serves job slot c y want (line_in b.memory want.line) v (needed fill_free)
+            (fill_changes job (slot + 1) y c want (line_in b.memory want.line) v servable
+            (backs_room job (slot + 1) c (fill y c) want (line_in b.memory want.line) at v filled_whole below filled_core_in));
       }
 
       acts_fill : action_of job y c ≡ Fill want.line
       acts_fill = action_fills job y c want asks mine posted
 
       abbrev filled_state : State
-      filled_state = served want (line_in b.memory want.line) at (behind_in want.line (removed c y.posted)) v
+      filled_state = served want (line_in b.memory want.line) at v
 
-      fill_part : IsPart job (slot + 1) c (stepped (served want (line_in b.memory want.line) at (behind_in want.line (removed c y.posted)) v))
+      fill_part : IsPart job (slot + 1) c (stepped (served want (line_in b.memory want.line) at v))
       unfolding after_action
       fill_part = next_part (Fill want.line) filled_state acts_fill filled_core_in refl
           (want_touched filled_state (met_now job (slot + 1) y c want (line_in b.memory want.line) v servable) refl refl refl refl)
           (rows_grow job slot c v filled_state own p.in_slot.rows (Fill want.line) (row_for want at v) acts_fill
           (served_row y c want at v number here mine (ap (λ (o : Option ℕ). unwrap_or o y.slot) post_is)) number refl)
 
-      state_is : (w : State) → w ≡ served want (line_in b.memory want.line) at (behind_in want.line (removed v.number b.memory.posted)) v
-          → w ≡ served want (line_in b.memory want.line) at (behind_in want.line (removed c y.posted)) v
-      state_is w done = done
-          ∙ ap (λ (d : ℕ). served want (line_in b.memory want.line) at (behind_in want.line (removed d b.memory.posted)) v) number
-          ∙ ap (λ (rs : List Request). served want (line_in b.memory want.line) at (behind_in want.line (removed c rs)) v) side_now.posted
-
       acted_fill : (action : Action) (w : State) (after : BusSide) → IsFilled want at v b action w after → IsActed job slot c action (stepped w) after
       acted_fill action w after d = record {
         what = d.what ∙ sym (side.fill_record job slot c b is q p.more own want asks mine posted);
-        core = subst (λ (u : State). IsPart job (slot + 1) c (stepped u)) (sym (state_is w d.core)) fill_part;
+        core = subst (λ (u : State). IsPart job (slot + 1) c (stepped u)) (sym d.core) fill_part;
         bus = subst (IsBusPart job (slot + 1)) (sym (d.side ∙ ap (λ (e : ℕ). side_filled e want.line b) number))
             (side.fill_side job slot c b is q p.more own want asks mine posted);
       }
@@ -363,9 +348,6 @@ module _ (job : JobValue) (slot c : ℕ) (v : State) (b : BusSide) (p : IsPartAf
       ready_is = ap (λ (d : ℕ). is_ready (posted_in d want.line (name_for want v) b.memory) d) number
           ∙ ap (λ (n : Name). is_ready (posted_in c want.line n b.memory) c) name_is
 
-      request_none : request_of c y.posted ≡ None
-      request_none = no_request job y b.memory c want None side_now wants_posted mine unposted
-
       module _ (ready : fills_at_once want b.memory v ≡ true) where
         is_now : is_served job (post y c want.kind want.line) c want.line ≡ true
         is_now = sym (ready_posted job y b.memory c want (mode_in y c want.line) side_now wants_posted mine unposted) ∙ sym ready_is ∙ ready
@@ -375,28 +357,29 @@ module _ (job : JobValue) (slot c : ℕ) (v : State) (b : BusSide) (p : IsPartAf
             (nobody_owns (post y c want.kind want.line) job.shape.cores want.line) is_now
 
         first_then : first_of want.line (post y c want.kind want.line).posted ≡ Some c
-        first_then = first_is c (first_of want.line (post y c want.kind want.line).posted)
+        first_then = first_served c (first_of want.line (post y c want.kind want.line).posted)
             (nobody_owns (post y c want.kind want.line) job.shape.cores want.line) is_now
 
         post_reads : AreWords job.shape.line_words y.memory want.line (line_in b.memory want.line)
         post_reads = reads (side.post_unowned job slot c b is q p.more own want mine unposted (sym ready_is ∙ ready))
 
       served_core_in : fills_at_once want b.memory v ≡ true → (at : ℕ)
-          → IsCoreIn job c (fill (post y c want.kind want.line) c) (served want (line_in b.memory want.line) at Nobody (asked v))
-      served_core_in ready at = post_served job y c want v postable (line_in b.memory want.line) (nobody_then ready) (post_reads ready) at
-          (first_then ready) request_none
+          → IsCoreIn job c (fill (post y c want.kind want.line) c) (served want (line_in b.memory want.line) at (asked want v))
+      served_core_in ready at = post_served job y c want v postable (line_in b.memory want.line) (first_then ready) (nobody_then ready) (post_reads ready) at
 
       post_free : want.victim ≡ None
       post_free = free_now job y c want mine asks unposted
 
-      post_room : fills_at_once want b.memory v ≡ true → length v.pending.write_backs < job.shape.cores
-      post_room ready = backs_room job (y.slot + 1) c (fill (post y c want.kind want.line) c) want (line_in b.memory want.line) 0 Nobody (asked v)
+      post_room : fills_at_once want b.memory v ≡ true → length (asked want v).pending.write_backs < job.shape.cores
+      post_room ready = backs_room job (y.slot + 1) c (fill (post y c want.kind want.line) c) want (line_in b.memory want.line) 0 (asked want v)
           (post_fill_whole job y c want whole_now below mine unposted post_free (nobody_then ready)) below (served_core_in ready 0)
 
       can_post_for : CanPostFor want v b.memory
       can_post_for = record {
         can = subst (λ (d : ℕ). CanPost d want.line b.memory) (sym number) (side.can_post job slot c b is q p.more own want mine unposted);
-        serve = λ ready. serves_asked job slot c y want (line_in b.memory want.line) v (needed post_free (unlisted job y c want v postable) (post_room ready));
+        changes = post_changes job y c want v postable;
+        serve = λ ready. serves_asked job slot c y want (line_in b.memory want.line) v (needed post_free)
+            (filled_changes job y c want v postable (line_in b.memory want.line) (first_then ready) (nobody_then ready) (post_reads ready) (post_room ready));
       }
 
       -- the action by whether the request is filled at once
@@ -410,26 +393,26 @@ module _ (job : JobValue) (slot c : ℕ) (v : State) (b : BusSide) (p : IsPartAf
       kind_is : kind_of_name (name_of want.kind (mode_in y c want.line)) ≡ want.kind
       kind_is = kind_named want.kind (mode_in y c want.line)
 
-      filled_part : fills_at_once want b.memory v ≡ true → IsPart job (slot + 1) c (stepped (served want (line_in b.memory want.line) v.slot Nobody (asked v)))
+      filled_part : fills_at_once want b.memory v ≡ true → IsPart job (slot + 1) c (stepped (served want (line_in b.memory want.line) v.slot (asked want v)))
       unfolding after_action
-      filled_part ready = let w : State = served want (line_in b.memory want.line) v.slot Nobody (asked v) in
+      filled_part ready = let w : State = served want (line_in b.memory want.line) v.slot (asked want v) in
           next_part (PostFill name want.line) w (acts_by true ready)
-          (subst (λ (kind : Kind). IsCoreIn job c (fill (post y c kind want.line) c) (served want (line_in b.memory want.line) v.slot Nobody (asked v)))
+          (subst (λ (kind : Kind). IsCoreIn job c (fill (post y c kind want.line) c) (served want (line_in b.memory want.line) v.slot (asked want v)))
           (sym kind_is) (served_core_in ready v.slot)) refl
-          (want_touched w (met_then job y c want v postable (line_in b.memory want.line) (nobody_then ready) (post_reads ready)) refl refl refl refl)
+          (want_touched w (met_then job y c want v postable (line_in b.memory want.line) (first_then ready) (nobody_then ready) (post_reads ready)) refl refl refl refl)
           (rows_grow job slot c v w own p.in_slot.rows (PostFill name want.line) (row_for want v.slot v) (acts_by true ready)
           (served_row y c want v.slot v number here mine (ap (λ (o : Option ℕ). unwrap_or o y.slot) unposted ∙ sym here)) number refl)
 
-      queued_part : fills_at_once want b.memory v ≡ false → IsPart job (slot + 1) c (stepped (asked v))
+      queued_part : fills_at_once want b.memory v ≡ false → IsPart job (slot + 1) c (stepped (asked want v))
       unfolding after_action
-      queued_part waits = next_part (Post name want.line) (asked v) (acts_by false waits)
-          (subst (λ (kind : Kind). IsCoreIn job c (post y c kind want.line) (asked v)) (sym kind_is) (post_asked job y c want v postable)) refl
-          (touched_none v (asked v) refl refl refl (still_standing (post_at v.slot) v.pending.want))
-          (rows_stay job slot c v (asked v) own p.in_slot.rows (Post name want.line) (acts_by false waits) refl refl)
+      queued_part waits = next_part (Post name want.line) (asked want v) (acts_by false waits)
+          (subst (λ (kind : Kind). IsCoreIn job c (post y c kind want.line) (asked want v)) (sym kind_is) (post_asked job y c want v postable)) refl
+          (touched_none v (asked want v) refl refl refl (still_standing (post_at v.slot) v.pending.want))
+          (rows_stay job slot c v (asked want v) own p.in_slot.rows (Post name want.line) (acts_by false waits) refl refl)
 
       post_part : IsPart job (slot + 1) c (stepped (posted_state want b.memory v))
       post_part = by_test (λ (w : State). IsPart job (slot + 1) c (stepped w)) (fills_at_once want b.memory v)
-          (served want (line_in b.memory want.line) v.slot Nobody (asked v)) (asked v) filled_part queued_part
+          (served want (line_in b.memory want.line) v.slot (asked want v)) (asked want v) filled_part queued_part
 
       acted_post : (action : Action) (w : State) (after : BusSide) → IsPosted want v b action w after → IsActed job slot c action (stepped w) after
       acted_post action w after d = record {

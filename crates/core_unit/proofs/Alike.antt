@@ -4,6 +4,7 @@ use Rattle.std.proofs.lemmas.List.{ext_get_or}
 use Rattle.pmsi_model.specs.declared.Touch.{Touch}
 use Rattle.pmsi_model.specs.Job.{JobValue}
 use Rattle.pmsi_model.specs.Machine.{CoreState, Request, mode_of}
+use Rattle.pmsi_model.specs.Named.{state_in}
 use Rattle.pmsi_model.specs.Phase.{Context, context_of, phase, phase_touches}
 use Rattle.pmsi_model.specs.Run.{machine_at}
 use Rattle.cache_array.specs.Cache.{held_of, words_of}
@@ -33,6 +34,7 @@ in_slot_alike job slot c y posted touches most u v keeps done p q t h =
       slot = p.now ∙ sym q.now;
       phase_done = done;
       core = core;
+      names = λ line. p.knows.names line ∙ ap (λ (k : CoreState). state_in posted c k line) core ∙ sym (q.knows.names line);
       cache = a.cache ∙ sym b.cache;
       words = λ line held. copies_alike job c y.memory u v line a b (λ none. held (ap (λ (k : CoreState). mode_of line k.held) (sym core) ∙ none)) held;
       rows = p.rows.rows ∙ sym q.rows.rows;

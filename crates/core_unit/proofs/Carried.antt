@@ -18,8 +18,8 @@ use Rattle.cache_array.specs.Cache.{held_of, others, words_of}
 use Rattle.cache_array.proofs.Exports.{held_of-others, words_of-others}
 use Rattle.core_unit.specs.declared.state.State.{State}
 use Rattle.core_unit.specs.Copies.{AreCopies}
-use Rattle.core_unit.specs.Stands.{Carries, CopiesAgree, IsWantOf, StandsFor}
-use Rattle.core_unit.specs.Parts.{IsPartAfter, KnowsClaims}
+use Rattle.core_unit.specs.Stands.{Carries, CopiesAgree, IsWantOf, KnowsStates, StandsFor}
+use Rattle.core_unit.specs.Parts.{IsPartAfter}
 use Rattle.core_unit.proofs.Words.{words_same}
 
 -- ---- a change of a state that carries a job
@@ -119,5 +119,5 @@ carried job slot c v p =
     }
 
 -- phases post nothing
-pub claims_carried : (job : JobValue) (slot c : ℕ) (v : State) → IsPartAfter job slot c v → KnowsClaims (after_phases job (machine_at job slot)).posted v
-claims_carried job slot c v p = subst (λ (posted : List Request). KnowsClaims posted v) (sym (phases-posted job job.shape.cores (machine_at job slot))) p.in_slot.claims
+pub knows_carried : (job : JobValue) (slot c : ℕ) (v : State) → IsPartAfter job slot c v → KnowsStates (after_phases job (machine_at job slot)).posted c v
+knows_carried job slot c v p = subst (λ (posted : List Request). KnowsStates posted c v) (sym (phases-posted job job.shape.cores (machine_at job slot))) p.in_slot.knows

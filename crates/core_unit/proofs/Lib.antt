@@ -1,10 +1,11 @@
 mod Words
 mod Programs
 mod Carried
+mod Changed
 mod Copies
 mod Steps
-mod SnoopsClaims
-mod SnoopsCopies
+mod States
+mod Untouched
 mod Snoops
 mod Touches
 mod Performs
@@ -14,6 +15,7 @@ mod Quanta
 mod Opens
 mod Openings
 mod Alike
+mod Names
 mod ActsCopies
 mod SidesOwners
 mod Sides
@@ -27,5 +29,6 @@ mod ActsBacks
 mod ActsRows
 mod ActsNeeds
 mod ActsSlots
+mod Told
 mod TestJobs
 pub mod Exports

@@ -7,9 +7,11 @@ use Rattle.pmsi_model.specs.declared.Touch.{Touch}
 use Rattle.pmsi_model.specs.declared.Turn.TheVariants.{Request as RequestTurn}
 use Rattle.pmsi_model.specs.Effect.{start_regs}
 use Rattle.pmsi_model.specs.Job.{JobValue, IsJob, text_of}
+use Rattle.pmsi_model.specs.Named.{behind_of, state_in}
 use Rattle.pmsi_model.specs.Slots.{SlotPlan, own_slots, plain_plan, plan_of}
 use Rattle.pmsi_model.specs.Run.{machine_at, start_of, touches_of}
 use Rattle.pmsi_model.specs.Rows.{rows_of}
+use Rattle.cache_ctrl.specs.declared.states.LineState.{LineState}
 use Rattle.cache_array.specs.Cache.{CacheValue}
 use Rattle.pend_buffers.specs.Pending.{PendingValue}
 use Rattle.core_unit.specs.declared.state.State.{State}
@@ -23,7 +25,7 @@ pub record Parts : Type 0 where
   pub regs : List ℕ
   pub cache : CacheValue
   pub pending : PendingValue
-  pub claimed : List ℕ
+  pub states : List LineState
   pub rows : Reserved Row
   pub touches : Reserved Touch
 
@@ -42,7 +44,7 @@ state_with c shape keeps p = record {
   retired = 0;
   cache = p.cache;
   pending = p.pending;
-  claimed = p.claimed;
+  states = p.states;
   rows = p.rows;
   keeps = keeps;
   touches = p.touches;
@@ -70,7 +72,7 @@ parts_of job c rows touches = record {
   regs = start_regs c job.shape.cores;
   cache = no_lines job.shape;
   pending = nothing_pending job.shape;
-  claimed = [];
+  states = [];
   rows = room_for Row rows;
   touches = room_for Touch touches;
 }
@@ -81,7 +83,7 @@ no_touches false = refl
 
 opened : (job : JobValue) (c : ℕ) (keeps : Bool) (rows touches : ℕ) → IsJob job → c < job.shape.cores → own_slots (plan_of job) c job.shape.slots ≤ rows → RoomFor job.shape keeps touches →
     IsPart job 0 c (state_with c job.shape keeps (parts_of job c rows touches))
-unfolding machine_at start_of rows_of touches_of
+unfolding machine_at start_of rows_of touches_of state_in behind_of
 opened job c keeps rows touches is below many room = record {
   in_slot = record {
     stands = record {
@@ -105,8 +107,7 @@ opened job c keeps rows touches is below many room = record {
       };
       core = refl;
     };
-    claims = λ line. refl;
-    once = tt;
+    knows = record { names = λ line. refl; once = tt };
     now = refl;
     within = omega arith;
     rows = record { rows = refl; few = omega arith; room = many };
@@ -125,9 +126,9 @@ opened_by job c rows touches keeps shape p is below same parts counted room =
     (opened job c keeps rows touches is below (omega arith) (subst (λ (g : Geometry). RoomFor g keeps touches) same room))
 
 -- the parts as the code makes them
-pub parts_by : (job : JobValue) (c rows touches : ℕ) (shape : Geometry) (plan : SlotPlan) (text regs : List ℕ) (cache : CacheValue) (pending : PendingValue) (claimed : List ℕ)
+pub parts_by : (job : JobValue) (c rows touches : ℕ) (shape : Geometry) (plan : SlotPlan) (text regs : List ℕ) (cache : CacheValue) (pending : PendingValue) (states : List LineState)
     (served : Reserved Row) (done : Reserved Touch) → shape ≡ job.shape → plan ≡ plain_plan shape.cores → text ≡ text_of job c → regs ≡ start_regs c shape.cores
-    → cache ≡ no_lines shape → pending ≡ nothing_pending shape → claimed ≡ [] → served ≡ room_for Row rows → done ≡ room_for Touch touches
-    → (let p : Parts = record { plan = plan; text = text; regs = regs; cache = cache; pending = pending; claimed = claimed; rows = served; touches = done } in p)
+    → cache ≡ no_lines shape → pending ≡ nothing_pending shape → states ≡ [] → served ≡ room_for Row rows → done ≡ room_for Touch touches
+    → (let p : Parts = record { plan = plan; text = text; regs = regs; cache = cache; pending = pending; states = states; rows = served; touches = done } in p)
     ≡ parts_of job c rows touches
-parts_by job c rows touches shape plan text regs cache pending claimed served done s l t r m n k w d = rw (l, t, r, m, n, k, w, d, s) refl
+parts_by job c rows touches shape plan text regs cache pending states served done s l t r m n k w d = rw (l, t, r, m, n, k, w, d, s) refl

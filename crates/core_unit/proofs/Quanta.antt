@@ -1,26 +1,26 @@
 -- The instructions of a phase, one after the other.
-use Rattle.std.proofs.Common.{◌≡◌, ℕ, zero, suc, ◌+◌, ◌-◌, ◌*◌, ◌^◌, ◌<◌, ◌≤◌, List, [], ◌++◌, length, Bool, Option, None, true, false, ◌&&◌, if◌then◌else◌, inl, inr, refl, sym, ap, ◌∙◌, subst, arith, add-one}
+use Rattle.std.proofs.Common.{◌≡◌, ℕ, zero, suc, ◌+◌, ◌-◌, ◌*◌, ◌^◌, ◌<◌, ◌≤◌, List, [], ◌++◌, length, Bool, Option, None, true, false, if◌then◌else◌, inl, inr, refl, sym, ap, ◌∙◌, subst, arith, add-one}
 use Rattle.std.proofs.lemmas.List.{append_assoc, append-nil}
 use Rattle.std.proofs.lemmas.Nat.{mul-le}
 use Rattle.pmsi_model.specs.declared.job.Geometry.{Geometry}
 use Rattle.pmsi_model.specs.declared.Access.{Access}
 use Rattle.pmsi_model.specs.declared.Touch.{Touch}
-use Rattle.pmsi_model.specs.Job.{JobValue, IsJob, text_of}
+use Rattle.pmsi_model.specs.Job.{JobValue, text_of}
 use Rattle.pmsi_model.specs.Slots.{own_slots, plan_of}
-use Rattle.pmsi_model.specs.Coherent.{ListsEachOnce}
-use Rattle.pmsi_model.specs.Machine.{Machine, CoreState, has_line, has_write}
+use Rattle.pmsi_model.specs.Coherent.{posted_request}
+use Rattle.pmsi_model.specs.Machine.{Machine, CoreState, request_of}
 use Rattle.pmsi_model.specs.Phase.{Context, access_at, access_if_permitted, after_effect, can_run, context_of, effect_at, instruction, instruction_touches, instructions, phase, phase_touches, touch_list}
 use Rattle.pmsi_model.specs.Run.{machine_at}
 use Rattle.pmsi_model.proofs.Numbers.{next_multiple}
 use Rattle.pmsi_model.proofs.Boundaries.{machine_at-slot}
-use Rattle.coherence_laws.proofs.Exports.{phase-own, phase-memory, phase_framed, sound_at, IsFramed, backs_fewer, FineCore}
+use Rattle.coherence_laws.proofs.Exports.{phase-own, phase-memory, backs_fewer, FineCore}
 use Rattle.core_unit.specs.declared.state.State.{State}
 use Rattle.core_unit.specs.State.{core_of}
 use Rattle.core_unit.specs.Stands.{with_memory, CanExecute, SameRun, StandsFor, StandsNext, TouchesNext}
 use Rattle.core_unit.specs.Parts.{CanPhase, HasRows, HasTouches, IsCore, IsPart, IsPartAfter, own_touches, standing}
 use Rattle.core_unit.specs.Phases.{IsInPhase, touches_in}
 use Rattle.core_unit.proofs.Carried.{unchanged}
-use Rattle.core_unit.proofs.Safe.{context_in, whole_in, fine_after, claims_same}
+use Rattle.core_unit.proofs.Safe.{context_in, whole_in, fine_after}
 use Rattle.core_unit.proofs.Touches.{instruction_few, instruction_takes, taken, touched_more, touches_as}
 
 none_taken : (shape : Geometry) (slot : ℕ) (text : List ℕ) (y : Context) → instructions shape slot text 0 y ≡ y
@@ -85,8 +85,7 @@ rows_kept job slot c v u same h = record {
 pub begins : (job : JobValue) (slot c : ℕ) (v : State) → slot < job.shape.slots → IsPart job slot c v → IsInPhase job slot c 0 v
 begins job slot c v more p = let s = p.in_slot in record {
   stands = subst (λ (y : Context). StandsFor job c y v) (sym (none_taken job.shape slot (text_of job c) (context_of (machine_at job slot) c))) s.stands;
-  claims = λ line. s.claims line ∙ ap (λ (k : CoreState). has_line line k.write_backs && has_write line (machine_at job slot).posted) (sym s.stands.core);
-  once = s.once;
+  knows = s.knows;
   now = s.now;
   more = more;
   most = omega arith;
@@ -107,6 +106,12 @@ retired_fits slots quantum retired many most few = let p : slots * quantum ≤ 1
 wants_none : (k : CoreState) → can_run k ≡ true → k.want ≡ None
 wants_none k can = grind arith
 
+-- a core that runs has no request
+no_request : (job : JobValue) (slot c count : ℕ) (v : State) → IsInPhase job slot c count v → can_run (core_of v) ≡ true → request_of c (machine_at job slot).posted ≡ None
+no_request job slot c count v p runs = let x : Machine = machine_at job slot in
+    let f : FineCore job.shape (slot + 1) x.posted c (core_of v) = subst (FineCore job.shape (slot + 1) x.posted c) p.stands.core (fine_after job slot c count p.stands.carries.within) in
+    f.posted_wants ∙ ap (posted_request c) (wants_none (core_of v) runs)
+
 pub can_execute : (job : JobValue) (slot c count : ℕ) (v : State) → IsInPhase job slot c count v → count < job.shape.quantum → can_run (core_of v) ≡ true → CanExecute v
 can_execute job slot c count v p below runs =
     let s = p.stands.carries in let is = s.within.shape in let x : Machine = machine_at job slot in
@@ -123,6 +128,9 @@ can_execute job slot c count v p below runs =
       retires = retired_fits job.shape.slots job.shape.quantum v.retired is.slots is.quantum spare;
       touches = λ keeps. let r = p.touches.room keeps in let t = p.touches.few in omega arith;
       wants_nothing = wants_none (core_of v) runs;
+      posted = x.posted;
+      unasked = no_request job slot c count v p runs;
+      knows = p.knows;
     }
 
 -- the accesses with that of one more instruction
@@ -136,9 +144,9 @@ one_more_touched job slot c count v p =
     ∙ append_assoc (own_touches job slot c) before (touch_list slot c (access_at job.shape text y.core) y.memory)
     ∙ ap (λ (ts : List Touch). own_touches job slot c ++ ts) (sym (next_touched job.shape slot c text count x))
 
-pub takes_one : (job : JobValue) (slot c count : ℕ) (v u : State) → IsInPhase job slot c count v → count < job.shape.quantum → SameRun v u →
+pub takes_one : (job : JobValue) (slot c count : ℕ) (v u : State) → IsInPhase job slot c count v → count < job.shape.quantum → can_run (core_of v) ≡ true → SameRun v u →
     StandsNext v u → TouchesNext v u → IsInPhase job slot c (count + 1) u
-takes_one job slot c count v u p below same after touches =
+takes_one job slot c count v u p below runs same after touches =
     let y : Context = context_in job slot c count in
     let here : with_memory y.memory v ≡ y = ap (λ (k : CoreState). let z : Context = record { core = k; memory = y.memory } in z) (sym p.stands.core) in
     let to : instruction job.shape v.slot (text_of job c) (with_memory y.memory v) ≡ instructions job.shape slot (text_of job c) (count + 1) (context_of (machine_at job slot) c) =
@@ -153,8 +161,7 @@ takes_one job slot c count v u p below same after touches =
     subst (λ (k : CoreState). taken k ≤ v.retired + standing v.pending.want + 1) stands.core (instruction_takes job.shape v.slot (text_of job c) (with_memory y.memory v)) in
     let r = p.touches.retired in record {
       stands = subst (λ (z : Context). StandsFor job c z u) to stands;
-      claims = λ line. ap (has_line line) same.claimed ∙ p.claims line;
-      once = subst ListsEachOnce (sym same.claimed) p.once;
+      knows = same.states (machine_at job slot).posted c (no_request job slot c count v p runs) p.knows;
       now = same.slot ∙ p.now;
       more = p.more;
       most = omega arith;
@@ -172,8 +179,7 @@ stops_early job slot c count v p stops =
     let same : instructions job.shape slot (text_of job c) count y ≡ instructions job.shape slot (text_of job c) job.shape.quantum y =
     sym (ap (λ (n : ℕ). instructions job.shape slot (text_of job c) n y) (sym e) ∙ idle_more job.shape slot (text_of job c) y count (job.shape.quantum - count) idle) in record {
       stands = subst (λ (z : Context). StandsFor job c z v) same p.stands;
-      claims = p.claims;
-      once = p.once;
+      knows = p.knows;
       now = p.now;
       more = p.more;
       most = omega arith;
@@ -200,14 +206,6 @@ phase_is job slot c = let x : Machine = machine_at job slot in
     ∙ ap (λ (m : List ℕ). let z : Context = record { core = (instructions job.shape x.slot (text_of job c) job.shape.quantum (context_of x c)).core; memory = m } in z) (phase-memory job c x)
     ∙ ap (λ (s : ℕ). instructions job.shape s (text_of job c) job.shape.quantum (context_of x c)) (machine_at-slot job slot)
 
--- the claimed lines are those that the core then has to write back
-claims_after : (job : JobValue) (slot c : ℕ) → IsJob job → (line : ℕ) →
-    (has_line line ((machine_at job slot).cores c).write_backs && has_write line (machine_at job slot).posted) ≡ (has_line line (context_in job slot c job.shape.quantum).core.write_backs && has_write line (machine_at job slot).posted)
-claims_after job slot c is line = let x : Machine = machine_at job slot in
-    let framed : IsFramed job.shape (context_of x c) (context_in job slot c job.shape.quantum) =
-    subst (λ (s : ℕ). IsFramed job.shape (context_of x c) (instructions job.shape s (text_of job c) job.shape.quantum (context_of x c))) (machine_at-slot job slot) (phase_framed job c x (sound_at job is slot)) in
-    claims_same job.shape (slot + 1) (slot + 1) x.posted c (x.cores c) (context_in job slot c job.shape.quantum).core ((whole_in job slot is).fine c) (fine_after job slot c job.shape.quantum is) framed.less framed.owned line
-
 -- the mark that the phase is done is no part of what a state stands for
 marked_stands : (job : JobValue) (c : ℕ) (y : Context) (v : State) → StandsFor job c y v → StandsFor job c y (record v { phase_done = true })
 marked_stands job c y v s = record { carries = unchanged job c y.memory v (record v { phase_done = true }) s.carries refl refl refl; core = s.core }
@@ -222,11 +220,10 @@ phase_touches_are job slot c = let x : Machine = machine_at job slot in
     ap (λ (s : ℕ). own_touches job slot c ++ instruction_touches job.shape s c (text_of job c) job.shape.quantum (context_of x c)) (sym (machine_at-slot job slot))
 
 pub phase_done : (job : JobValue) (slot c : ℕ) (v : State) → IsInPhase job slot c job.shape.quantum v → IsPartAfter job slot c (record v { phase_done = true })
-phase_done job slot c v p = let s = p.stands.carries in let posted = (machine_at job slot).posted in record {
+phase_done job slot c v p = record {
   in_slot = record {
     stands = subst (λ (y : Context). StandsFor job c y (record v { phase_done = true })) (sym (phase_is job slot c)) (marked_stands job c (context_in job slot c job.shape.quantum) v p.stands);
-    claims = λ line. p.claims line ∙ claims_after job slot c s.within line ∙ ap (λ (k : CoreState). has_line line k.write_backs && has_write line posted) p.stands.core;
-    once = p.once;
+    knows = record { names = p.knows.names; once = p.knows.once };
     now = p.now;
     within = (let m = p.more in omega arith);
     rows = rows_kept job slot c v (record v { phase_done = true }) refl p.rows;

@@ -1,5 +1,5 @@
 -- The bus before and after the action of a slot's owner.
-use Rattle.std.proofs.Common.{◌≡◌, ◌≢◌, ℕ, ◌+◌, ◌-◌, ◌*◌, ◌/◌, ◌<◌, ◌≤◌, List, [], ◌∷◌, ◌++◌, length, drop, get_or, Some, None, is_some, Bool, true, false, not, ◌&&◌, if◌then◌else◌, refl, sym, ap, ◌∙◌, subst, arith, length-append, length-drop}
+use Rattle.std.proofs.Common.{◌≡◌, ◌≢◌, ℕ, ◌+◌, ◌-◌, ◌*◌, ◌/◌, ◌<◌, ◌≤◌, List, [], ◌∷◌, ◌++◌, length, drop, get_or, Some, None, is_some, Bool, true, false, if◌then◌else◌, refl, sym, ap, ◌∙◌, subst, arith, length-append, length-drop}
 use Rattle.std.specs.Option.{option_map}
 use Rattle.std.proofs.lemmas.List.{drop-append-le, drop-drop}
 use Rattle.std.proofs.lemmas.Nat.{mod_below}
@@ -12,8 +12,8 @@ use Rattle.pmsi_model.specs.declared.Name.{Name}
 use Rattle.pmsi_model.specs.declared.Want.{Want}
 use Rattle.pmsi_model.specs.Job.{JobValue, IsJob}
 use Rattle.pmsi_model.specs.Slots.{SlotPlan, plan_of, gap_of, owner_of_slot}
-use Rattle.pmsi_model.specs.Machine.{Machine, CoreState, mode_in, has_write, owner_of, request_of}
-use Rattle.pmsi_model.specs.Bus.{has_victim_for, is_served, requests_now, kind_of_name, name_of, post, post_at, fill, keeps_line, action_of, after_action}
+use Rattle.pmsi_model.specs.Machine.{Machine, CoreState, mode_in, owner_of, request_of}
+use Rattle.pmsi_model.specs.Bus.{is_served, requests_now, kind_of_name, name_of, post, post_at, fill, keeps_line, action_of, after_action}
 use Rattle.pmsi_model.specs.Coherent.{IsCoherent, posted_request}
 use Rattle.pmsi_model.specs.Phase.{context_of}
 use Rattle.pmsi_model.specs.Run.{machine_at, after_phases, slot_done, record_at, records}
@@ -26,7 +26,7 @@ use Rattle.pmsi_model.proofs.Owners.{nobody_none, owner_alone, owner_same}
 use Rattle.coherence_laws.proofs.Exports.{stays_memory, IsAsked, want_asked_between, kind_named, phases_coherent}
 use Rattle.core_unit.proofs.Sides.{side_carried, line_in-length, line_in-word, asked_at, asked_below, line_within, shared_posted, IsFillable, shared_filled, IsBackable, shared_back}
 use Rattle.core_unit.proofs.SidesOwners.{post-owner}
-use Rattle.core_unit.proofs.SidesReady.{keeps_due, ready_served, no_request, new_request, ready_posted, served_now, first_listed, action_posts, action_fills, action_backs, action_idles}
+use Rattle.core_unit.proofs.SidesReady.{ready_served, no_request, new_request, ready_posted, served_now, first_listed, action_posts, action_fills, action_backs, action_idles}
 
 -- ---- the last actions
 
@@ -196,11 +196,6 @@ module _ (job : JobValue) (slot c : ℕ) (b : BusSide) (is : IsJob job) (part : 
 
   pub idle_record : requests_now job y c ≡ false → (y.cores c).write_backs ≡ [] → record_at job slot ≡ Idle
   idle_record waits none = record_is job slot c own ∙ action_idles job y c waits none
-
-  -- a line stays shared where no write is queued for it and it isn't the victim
-  pub first_kept : (line : ℕ) (lines : List ℕ) → (y.cores c).write_backs ≡ line ∷ lines
-      → keeps_line y c line ≡ (not (has_write line y.posted) && not (has_victim_for line (y.cores c).want))
-  first_kept line lines first = keeps_due y c line (coherent_now.back_due c line (first_listed job y c line lines first))
 
   -- ---- after the action
 

@@ -52,7 +52,7 @@ read_owns false line l held other = dite (ℕ_discrete l line)
     (λ there. ap is_modified (let f = mode_to_front l line Shared held in grind arith))
 
 -- other lines are held as before
-else_mode : (kind : Kind) (behind : Bool) (line l : ℕ) (held : List (ℕ × Mode)) → l ≢ line → mode_of l (filled_line kind behind line held) ≡ mode_of l held
+pub else_mode : (kind : Kind) (behind : Bool) (line l : ℕ) (held : List (ℕ × Mode)) → l ≢ line → mode_of l (filled_line kind behind line held) ≡ mode_of l held
 else_mode Read true line l held other = refl
 else_mode Read false line l held other = let f = mode_to_front l line Shared held in grind arith
 else_mode Write behind line l held other = let f = mode_to_front l line Modified held in grind arith

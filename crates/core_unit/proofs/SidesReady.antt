@@ -1,14 +1,14 @@
 -- What a core can do in its slot, as the bus has it.
-use Rattle.std.proofs.Common.{◌≡◌, ◌⊎◌, ℕ, List, [], ◌∷◌, Option, Some, None, is_some, is_none, Bool, true, false, not, ◌&&◌, ◌||◌, if◌then◌else◌, refl, sym, ap, ◌∙◌, arith}
+use Rattle.std.proofs.Common.{◌≡◌, ℕ, List, [], ◌∷◌, Option, Some, None, is_some, is_none, Bool, true, false, not, ◌&&◌, ◌||◌, if◌then◌else◌, refl, sym, ap, ◌∙◌, arith}
 use Rattle.pmsi_model.specs.declared.Action.TheVariants.{Idle, Post, Fill, PostFill, Back}
 use Rattle.pmsi_model.specs.declared.Kind.{Kind}
 use Rattle.pmsi_model.specs.declared.Mode.{Mode}
 use Rattle.pmsi_model.specs.declared.Turn.{Turn}
 use Rattle.pmsi_model.specs.declared.Want.{Want}
 use Rattle.pmsi_model.specs.Job.{JobValue}
-use Rattle.pmsi_model.specs.Machine.{Machine, Request, mode_in, has_line, has_request, has_write, first_of, request_of}
-use Rattle.pmsi_model.specs.Bus.{is_core, is_served, can_request_for, can_request, can_write_back, is_request_turn, requests_now, name_of, post, has_victim_for, keeps_line, post_action, request_action, back_action, action_of}
-use Rattle.pmsi_model.specs.Coherent.{posted_request, victim_in}
+use Rattle.pmsi_model.specs.Machine.{Machine, Request, mode_in, has_line, first_of, request_of}
+use Rattle.pmsi_model.specs.Bus.{is_core, is_served, can_request_for, can_request, can_write_back, is_request_turn, requests_now, name_of, post, keeps_line, post_action, request_action, back_action, action_of}
+use Rattle.pmsi_model.specs.Coherent.{posted_request}
 use Rattle.pmsi_model.specs.Shared.{SharedValue, owner_in, is_ready_for, is_ready, with_request, posted_in}
 use Rattle.pmsi_model.specs.Parts.{IsSharedOf}
 use Rattle.pmsi_model.proofs.Changes.{post-posted}
@@ -174,16 +174,3 @@ module _ (job : JobValue) (y : Machine) (c : ℕ) where
 
   pub first_listed : (line : ℕ) (lines : List ℕ) → (y.cores c).write_backs ≡ line ∷ lines → has_line line (y.cores c).write_backs ≡ true
   first_listed line lines is = ap (has_line line) is ∙ grind arith
-
--- a line that is to be written back has a request, or is the victim
-victim_has : (line : ℕ) (o : Option Want) → victim_in o ≡ Some line → has_victim_for line o ≡ true
-victim_has line None is = absurd (grind arith)
-victim_has line (Some want) is = ap (is_core line) is ∙ grind arith
-
-kept_by : (line : ℕ) (o : Option Want) (posted : List Request) → (victim_in o ≡ Some line) ⊎ (has_request line posted ≡ true)
-    → (has_request line posted && not (has_write line posted) && not (has_victim_for line o)) ≡ (not (has_write line posted) && not (has_victim_for line o))
-kept_by line o posted due = grind (arith, victim_has line o)
-
-pub keeps_due : (y : Machine) (c line : ℕ) → (victim_in (y.cores c).want ≡ Some line) ⊎ (has_request line y.posted ≡ true)
-    → keeps_line y c line ≡ (not (has_write line y.posted) && not (has_victim_for line (y.cores c).want))
-keeps_due y c line due = kept_by line (y.cores c).want y.posted due

@@ -6,85 +6,92 @@ use Rattle.pmsi_model.specs.declared.Action.TheVariants.{Idle, Post, Fill, PostF
 use Rattle.pmsi_model.specs.declared.Kind.{Kind}
 use Rattle.pmsi_model.specs.declared.Kind.TheVariants.{Read, Write}
 use Rattle.pmsi_model.specs.declared.Mode.{Mode}
+use Rattle.pmsi_model.specs.declared.State.{State as LineName}
 use Rattle.pmsi_model.specs.declared.Mode.TheVariants.{Shared, Modified}
 use Rattle.pmsi_model.specs.declared.Want.{Want}
 use Rattle.pmsi_model.specs.Job.{JobValue}
-use Rattle.pmsi_model.specs.Machine.{Machine, CoreState, Request, append_once, has_line, has_write, is_write, mode_in, mode_of, nobody_owns, removed, request_of}
+use Rattle.pmsi_model.specs.Machine.{Machine, CoreState, Request, append_once, first_of, has_line, has_write, mode_in, mode_of, nobody_owns, removed, request_of}
+use Rattle.pmsi_model.specs.Named.{state_in}
 use Rattle.pmsi_model.specs.Phase.{context_of, memory_after}
 use Rattle.pmsi_model.specs.Bus.{action_of, after_action, back_action, can_request_for, fill, filled_line, is_served, kind_of_name, name_of, noted_post, post, post_action, post_at, request_action, requests_now, write_back, keeps_line}
-use Rattle.pmsi_model.specs.Coherent.{ListsEachOnce}
 use Rattle.pmsi_model.proofs.Cases.{by_test}
-use Rattle.pmsi_model.proofs.Changes.{fill-memory, fill-other, fill-own, fill-posted, noted-backs, post-other, post-own, write_back-other}
+use Rattle.pmsi_model.proofs.Changes.{fill-memory, fill-other, fill-own, fill-posted, noted-backs, noted-mode, post-memory, post-other, post-own, post-posted, write_back-other}
 use Rattle.pmsi_model.proofs.Held.{mode_to_front}
-use Rattle.pmsi_model.proofs.WriteBacks.{line_append_once, once_append_once, once_more, line_more}
 use Rattle.coherence_laws.specs.Apart.{line_bytes_in}
 use Rattle.coherence_laws.proofs.Exports.{fill_whole, post_whole, line_after_other, access_memory, IsAsked, backs_fit, kind_named, nobody_at_all, post_fill_whole, unposted_now, IsWhole}
 use Rattle.pmsi_model.proofs.Accesses.{IsFit, read_after}
-use Rattle.cache_array.specs.Cache.{held_of, others}
+use Rattle.cache_ctrl.specs.declared.Duty.{Duty}
+use Rattle.cache_ctrl.specs.Duties.{other_duty, other_event}
+use Rattle.cache_ctrl.proofs.Exports.{IsSettled, noted_done, other_fills, other_posts, other_posts_else}
+use Rattle.cache_array.specs.Cache.{held_of}
 use Rattle.core_unit.specs.declared.state.State.{State}
-use Rattle.core_unit.specs.State.{core_of, snooped_request, snooped_in, snooped, with_lines}
-use Rattle.core_unit.specs.Stands.{Carries, StandsFor}
-use Rattle.core_unit.specs.Parts.{AreClaims, KnowsClaims}
+use Rattle.core_unit.specs.Changes.{CanDo, duty_in, next_for}
+use Rattle.core_unit.specs.State.{core_of, snooped_request, snooped}
+use Rattle.core_unit.specs.Stands.{Carries, KnowsStates, StandsFor}
 use Rattle.core_unit.specs.Snoops.{CanSnoopRequest, CanSnoopAction}
 use Rattle.core_unit.proofs.Carried.{carries_along}
 use Rattle.core_unit.proofs.Sides.{asked_at}
-use Rattle.core_unit.proofs.SnoopsClaims.{claimed_waits, claims_demanded, claims_posted, claims_served, lines_fit, write_waits}
-use Rattle.core_unit.proofs.SnoopsCopies.{carries_snooped, snooped_request-core}
+use Rattle.core_unit.proofs.Changed.{carries_changed, changed_core, changed_listed, entry_of, first_served, knows_changed, settled_in, some_comes, states_room}
 
--- a core in a machine, with what it knows of queued writes
+-- a core in a machine, with what it knows of the states of its lines
 pub record IsCoreIn (job : JobValue) (d : ℕ) (y : Machine) (v : State) : Type 0 where
   pub stands : StandsFor job d (context_of y d) v
-  pub claims : KnowsClaims y.posted v
-  pub once : ListsEachOnce v.claimed
+  pub knows : KnowsStates y.posted d v
 
--- a line that isn't owned isn't listed
-unlisted : (mode : Option Mode) (has : Bool) → (has ≡ true → mode ≡ Some Modified) → mode ≢ Some Modified → has ≡ false
-unlisted mode true owned other = absurd (other (owned refl))
-unlisted mode false owned other = refl
+-- what the duty at another core's request needs
+duty_room : (kind : Kind) (line : ℕ) (mode : Option Mode) (waits : Bool) (v : State) → mode_of line (held_of v.cache.lines) ≡ mode → has_line line v.pending.write_backs ≡ waits
+    → (mode ≡ Some Modified → waits ≡ false → length v.pending.write_backs < v.pending.cores) → CanDo (other_duty kind mode waits) line v
+duty_room kind line None waits v held listed room = tt
+duty_room Read line (Some Shared) waits v held listed room = tt
+duty_room Write line (Some Shared) waits v held listed room = λ none. absurd cc
+duty_room kind line (Some Modified) true v held listed room = tt
+duty_room kind line (Some Modified) false v held listed room = (listed, room refl refl)
 
 module _ (job : JobValue) (s : ℕ) (y : Machine) (d : ℕ) (v : State) (w : IsWhole job.shape s y.posted y.cores) (h : IsCoreIn job d y v) where
-  -- the lines that the core lists it owns
-  listed_owned : (line : ℕ) → has_line line v.pending.write_backs ≡ true → mode_of line (held_of v.cache.lines) ≡ Some Modified
-  listed_owned line = subst (λ (k : CoreState). has_line line k.write_backs ≡ true → mode_of line k.held ≡ Some Modified) h.stands.core ((w.fine d).back_owned line)
-
-  -- it lists an owned line for which a write is queued
-  write_listed : (line : ℕ) → mode_of line (held_of v.cache.lines) ≡ Some Modified → has_write line y.posted ≡ true → has_line line v.pending.write_backs ≡ true
-  write_listed line owned has = subst (λ (k : CoreState). mode_of line k.held ≡ Some Modified → has_line line k.write_backs ≡ true) h.stands.core
-      (λ o. (w.fine d).demanded_waits line o (write_waits line y.posted has)) owned
+  settled : IsSettled y.posted d (core_of v)
+  settled = settled_in job.shape s y d (core_of v) w h.stands.core
 
   -- ---- a request is posted
 
-  claims_snooped : (r : Request) (mode : Option Mode) → mode_of r.line (held_of v.cache.lines) ≡ mode → KnowsClaims (y.posted ++ r ∷ []) (snooped_in r.kind r.line mode v)
-  claims_snooped r None is = claims_posted y.posted r v.pending.write_backs v.claimed
-      (unlisted None (has_line r.line v.pending.write_backs) (λ has. sym is ∙ listed_owned r.line has) (grind arith)) h.claims
-  claims_snooped r (Some Shared) is =
-      let absent : AreClaims (y.posted ++ r ∷ []) v.pending.write_backs v.claimed = claims_posted y.posted r v.pending.write_backs v.claimed
-      (unlisted (Some Shared) (has_line r.line v.pending.write_backs) (λ has. sym is ∙ listed_owned r.line has) (grind arith)) h.claims in
-      by_test (λ (u : State). KnowsClaims (y.posted ++ r ∷ []) u) (is_write r.kind) (with_lines (others r.line v.cache.lines) v) v (λ write. absent) (λ read. absent)
-  claims_snooped r (Some Modified) is = claims_demanded y.posted r v.pending.write_backs v.claimed (write_listed r.line is) h.claims
+  module _ (c : ℕ) (kind : Kind) (line : ℕ) (other : d ≢ c) where
+    entry : next_for (other_event kind) line v ≡ Some (
+      state_in (y.posted ++ record { core = c; line = line; kind = kind } ∷ []) d (noted_post kind line (core_of v)) line,
+      other_duty kind (mode_of line (held_of v.cache.lines)) (has_line line v.pending.write_backs),
+    )
+    entry = let r : Request = record { core = c; line = line; kind = kind } in
+        entry_of (other_event kind) line y.posted d v (
+          state_in (y.posted ++ r ∷ []) d (noted_post kind line (core_of v)) line,
+          other_duty kind (mode_of line (held_of v.cache.lines)) (has_line line v.pending.write_backs),
+        ) h.knows
+        (other_posts y.posted d (core_of v) r settled (λ same. other (sym same)))
 
-  once_snooped : (kind : Kind) (line : ℕ) (mode : Option Mode) → ListsEachOnce (snooped_in kind line mode v).claimed
-  once_snooped kind line None = h.once
-  once_snooped Read line (Some Shared) = h.once
-  once_snooped Write line (Some Shared) = h.once
-  once_snooped Read line (Some Modified) = h.once
-  once_snooped Write line (Some Modified) = once_append_once line v.claimed h.once
+    core_noted : core_of (snooped_request kind line v) ≡ noted_post kind line (core_of v)
+    core_noted = changed_core (other_event kind) line v (state_in (y.posted ++ record { core = c; line = line; kind = kind } ∷ []) d (noted_post kind line (core_of v)) line)
+        (other_duty kind (mode_of line (held_of v.cache.lines)) (has_line line v.pending.write_backs)) entry
+        ∙ sym (noted_done kind line (core_of v))
 
-  pub post_snooped : (c : ℕ) (kind : Kind) (line : ℕ) → d ≢ c → IsCoreIn job d (post y c kind line) (snooped_request kind line v)
-  unfolding post
-  post_snooped c kind line other = record {
-    stands = record {
-      carries = carries_snooped job d y.memory kind line v h.stands.carries;
-      core = post-other y c d kind line other ∙ ap (noted_post kind line) h.stands.core ∙ snooped_request-core kind line v;
-    };
-    claims = claims_snooped (record { core = c; line = line; kind = kind }) (mode_of line (held_of v.cache.lines)) refl;
-    once = once_snooped kind line (mode_of line (held_of v.cache.lines));
-  }
+    knows_noted : KnowsStates (y.posted ++ record { core = c; line = line; kind = kind } ∷ []) d (snooped_request kind line v)
+    knows_noted = let r : Request = record { core = c; line = line; kind = kind } in
+        knows_changed y.posted (y.posted ++ r ∷ []) d v (snooped_request kind line v) line (noted_post kind line (core_of v)) h.knows core_noted
+        (changed_listed (other_event kind) line v (state_in (y.posted ++ r ∷ []) d (noted_post kind line (core_of v)) line)
+        (other_duty kind (mode_of line (held_of v.cache.lines)) (has_line line v.pending.write_backs)) entry)
+        (λ l away. other_posts_else y.posted d (core_of v) r l (λ same. other (sym same)) away)
+        (λ l away. grind (arith, noted-mode kind line l (core_of v)))
+
+    pub post_snooped : IsCoreIn job d (post y c kind line) (snooped_request kind line v)
+    post_snooped = record {
+      stands = record {
+        carries = subst (λ (memory : List ℕ). Carries job d memory (snooped_request kind line v)) (sym (post-memory y c kind line))
+            (carries_changed job d y.memory (next_for (other_event kind) line v) line v h.stands.carries);
+        core = post-other y c d kind line other ∙ ap (noted_post kind line) h.stands.core ∙ sym core_noted;
+      };
+      knows = subst (λ (posted : List Request). KnowsStates posted d (snooped_request kind line v)) (sym (post-posted y c kind line)) knows_noted;
+    }
 
   -- ---- a request is served: its core's access is on a line that this core doesn't own, nor hold if it is a write
 
   module _ (c : ℕ) (want : Want) (after : IsWhole job.shape s (fill y c).posted (fill y c).cores) (is : (y.cores c).want ≡ Some want) (posted : is_some want.post ≡ true)
-      (asked : IsAsked job.shape want) (nobody : nobody_owns y job.shape.cores want.line ≡ true) (other : d ≢ c) where
+      (asked : IsAsked job.shape want) (first : first_of want.line y.posted ≡ Some c) (nobody : nobody_owns y job.shape.cores want.line ≡ true) (other : d ≢ c) where
     fit : IsFit (length y.memory) want.access
     fit = subst (λ (n : ℕ). IsFit n want.access) (sym h.stands.carries.bytes) asked.fit
 
@@ -123,10 +130,11 @@ module _ (job : JobValue) (s : ℕ) (y : Machine) (d : ℕ) (v : State) (w : IsW
             (held_stays want.kind refl) h.stands.carries);
         core = core_stays;
       };
-      claims = subst (λ (posted : List Request). KnowsClaims posted v) (sym (fill-posted y c want is))
-          (claims_served c y.posted request v.pending.write_backs v.claimed w.once requested
-          (unlisted (mode_of want.line (held_of v.cache.lines)) (has_line want.line v.pending.write_backs) (listed_owned want.line) unowned) h.claims);
-      once = h.once;
+      knows = subst (λ (posted : List Request). KnowsStates posted d v) (sym (fill-posted y c want is)) (record {
+        names = λ line. h.knows.names line
+            ∙ sym (other_fills y.posted d c (core_of v) line request w.once (λ same. other (sym same)) requested first unowned);
+        once = h.knows.once;
+      });
     }
 
   -- ---- a line is written back
@@ -135,8 +143,7 @@ module _ (job : JobValue) (s : ℕ) (y : Machine) (d : ℕ) (v : State) (w : IsW
   unfolding write_back
   back_snooped c line kept other = record {
     stands = record { carries = h.stands.carries; core = write_back-other y c line kept d other ∙ h.stands.core };
-    claims = h.claims;
-    once = h.once;
+    knows = h.knows;
   }
 
   -- ---- room for what the core learns
@@ -149,16 +156,20 @@ module _ (job : JobValue) (s : ℕ) (y : Machine) (d : ℕ) (v : State) (w : IsW
     fits : mode_of line (held_of v.cache.lines) ≡ Some Modified → length (append_once line v.pending.write_backs) ≤ job.shape.cores
     fits owned = subst (λ (lines : List ℕ). length lines ≤ job.shape.cores) (listed_after owned) (backs_fit job.shape s (post y c kind line).posted (post y c kind line).cores d after)
 
-    -- once the line is claimed too there are at most as many claimed lines as listed ones
-    claimed_after : has_line line v.claimed ≡ false → length (v.claimed ++ line ∷ []) ≤ length (append_once line v.pending.write_backs)
-    claimed_after new = lines_fit (v.claimed ++ line ∷ []) (append_once line v.pending.write_backs) (once_more line v.claimed h.once new)
-        (λ l has. grind (arith, line_more l line v.claimed, line_append_once l line v.pending.write_backs, claimed_waits y.posted v.pending.write_backs v.claimed h.claims l))
-
-    pub can_snoop : CanSnoopRequest line v
-    can_snoop owned = let most = fits owned in let same = h.stands.carries.cores in let few = h.stands.carries.within.shape.cores in record {
-      backs = λ new. let count : length (append_once line v.pending.write_backs) ≡ length v.pending.write_backs + 1 = grind (arith, length-append v.pending.write_backs (line ∷ [])) in omega arith;
-      claims = λ new. let count = claimed_after new in let more = length-append v.claimed (line ∷ []) in omega arith;
-    }
+    pub can_snoop : CanSnoopRequest kind line v
+    can_snoop = let same = h.stands.carries.cores in let few = h.stands.carries.within.shape.cores in
+        let next = entry c kind line other in record {
+          comes = some_comes (next_for (other_event kind) line v) (
+            state_in (y.posted ++ record { core = c; line = line; kind = kind } ∷ []) d (noted_post kind line (core_of v)) line,
+            other_duty kind (mode_of line (held_of v.cache.lines)) (has_line line v.pending.write_backs),
+          ) next;
+          room = states_room y.posted d v h.knows
+              (let most = subst (λ (k : CoreState). length k.write_backs ≤ job.shape.cores) h.stands.core (backs_fit job.shape s y.posted y.cores d w) in omega arith);
+          duty = subst (λ (o : Option (LineName × Duty)). CanDo (duty_in o) line v) (sym next)
+              (duty_room kind line (mode_of line (held_of v.cache.lines)) (has_line line v.pending.write_backs) v refl refl
+              (λ owned new. (let most = fits owned in
+              let count : length (append_once line v.pending.write_backs) ≡ length v.pending.write_backs + 1 = grind (arith, length-append v.pending.write_backs (line ∷ [])) in omega arith)));
+        }
 
 -- ---- the action of the slot's owner
 
@@ -188,7 +199,8 @@ module _ (job : JobValue) (y : Machine) (c d : ℕ) (v : State) (w : IsWhole job
       room = tt;
       core_in = fill_snooped job (y.slot + 1) y d v w h c want
           (fill_whole job.shape (y.slot + 1) y c want w below is posted (nobody_at_all job.shape (y.slot + 1) y want.line w (let can = can in grind arith)))
-          is posted (asked want is) (let can = can in grind arith) other;
+          is posted (asked want is) (first_served c (first_of want.line y.posted) (nobody_owns y job.shape.cores want.line) (let can = can in grind arith))
+          (let can = can in grind arith) other;
     }
 
     module _ (unposted : is_some want.post ≡ false) where
@@ -201,7 +213,7 @@ module _ (job : JobValue) (y : Machine) (c d : ℕ) (v : State) (w : IsWhole job
       posted_whole : IsWhole job.shape (y.slot + 1) (post y c want.kind want.line).posted (post y c want.kind want.line).cores
       posted_whole = post_whole job.shape y c want w below is (grind arith) free
 
-      request_room : CanSnoopRequest want.line v
+      request_room : CanSnoopRequest want.kind want.line v
       request_room = can_snoop job (y.slot + 1) y d v w h c want.kind want.line posted_whole other
 
       request_snooped : IsCoreIn job d (post y c want.kind want.line) (snooped_request want.kind want.line v)
@@ -210,7 +222,7 @@ module _ (job : JobValue) (y : Machine) (c d : ℕ) (v : State) (w : IsWhole job
       waits_snooped : IsActionSnooped job y c d v (Post (name_of want.kind (mode_in y c want.line)) want.line)
       unfolding after_action
       waits_snooped = record {
-        room = request_room;
+        room = subst (λ (kind : Kind). CanSnoopRequest kind want.line v) (sym named) request_room;
         core_in = subst (λ (kind : Kind). IsCoreIn job d (post y c kind want.line) (snooped_request kind want.line v)) (sym named) request_snooped;
       }
 
@@ -220,11 +232,13 @@ module _ (job : JobValue) (y : Machine) (c d : ℕ) (v : State) (w : IsWhole job
       served_snooped : is_served job (post y c want.kind want.line) c want.line ≡ true → IsActionSnooped job y c d v (PostFill (name_of want.kind (mode_in y c want.line)) want.line)
       unfolding after_action
       served_snooped served = let nobody : nobody_owns (post y c want.kind want.line) job.shape.cores want.line ≡ true = grind arith in record {
-        room = request_room;
+        room = subst (λ (kind : Kind). CanSnoopRequest kind want.line v) (sym named) request_room;
         core_in = subst (λ (kind : Kind). IsCoreIn job d (fill (post y c kind want.line) c) (snooped_request kind want.line v)) (sym named)
             (fill_snooped job (y.slot + 1) (post y c want.kind want.line) d (snooped_request want.kind want.line v) posted_whole request_snooped c (post_at y.slot want)
             (post_fill_whole job y c want w below is (grind arith) free nobody)
-            posted_want refl (asked_at job.shape y.slot want (asked want is)) nobody other);
+            posted_want refl (asked_at job.shape y.slot want (asked want is))
+            (first_served c (first_of want.line (post y c want.kind want.line).posted) (nobody_owns (post y c want.kind want.line) job.shape.cores want.line) served)
+            nobody other);
       }
 
       post_action_snooped : IsActionSnooped job y c d v (post_action job y c want)

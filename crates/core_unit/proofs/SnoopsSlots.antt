@@ -10,7 +10,7 @@ use Rattle.pmsi_model.specs.declared.Want.{Want}
 use Rattle.pmsi_model.specs.Job.{JobValue, IsJob}
 use Rattle.pmsi_model.specs.declared.Touch.{Touch}
 use Rattle.pmsi_model.specs.Slots.{plan_of, own_slots, owner_of_slot}
-use Rattle.pmsi_model.specs.Machine.{Machine}
+use Rattle.pmsi_model.specs.Machine.{Machine, Request}
 use Rattle.pmsi_model.specs.Phase.{Context, context_of}
 use Rattle.pmsi_model.specs.Bus.{after_action}
 use Rattle.pmsi_model.specs.Rows.{action_row, row_of, rows_of, slot_rows}
@@ -21,14 +21,14 @@ use Rattle.pmsi_model.proofs.OwnSlots.{own_grows}
 use Rattle.core_unit.specs.declared.state.State.{State}
 use Rattle.core_unit.specs.Reserved.{Reserved}
 use Rattle.core_unit.specs.State.{snooped, stepped}
-use Rattle.core_unit.specs.Stands.{StandsFor}
+use Rattle.core_unit.specs.Stands.{KnowsStates, StandsFor}
 use Rattle.core_unit.specs.Parts.{CanSnoop, HasRows, HasTouches, IsCore, IsPart, IsPartAfter, own_touches, standing}
 use Rattle.core_unit.specs.Acts.{IsSnooped}
 use Rattle.core_unit.specs.Snoops.{CanSnoopAction}
 use Rattle.core_unit.proofs.ActsTouches.{ended_touches, other_touches, touches_after, touches_before, touched_none}
-use Rattle.core_unit.proofs.Carried.{carried, claims_carried, unchanged}
+use Rattle.core_unit.proofs.Carried.{carried, knows_carried, unchanged}
 use Rattle.core_unit.proofs.Snoops.{IsActionSnooped, IsCoreIn, action_snooped}
-use Rattle.core_unit.proofs.SnoopsCopies.{Untouched, untouched_of, snooped-run}
+use Rattle.core_unit.proofs.Untouched.{Untouched, untouched_of, snooped-run}
 
 -- ---- rows
 
@@ -52,6 +52,9 @@ nothing_more rows more none = grind (arith, append-nil rows)
 -- the core of a state doesn't know the slot
 pub stands_stepped : (job : JobValue) (c : ℕ) (x : Context) (v : State) → StandsFor job c x v → StandsFor job c x (stepped v)
 stands_stepped job c x v s = record { carries = unchanged job c x.memory v (stepped v) s.carries refl refl refl; core = s.core }
+
+pub knows_stepped : (posted : List Request) (c : ℕ) (v : State) → KnowsStates posted c v → KnowsStates posted c (stepped v)
+knows_stepped posted c v knows = record { names = knows.names; once = knows.once }
 
 module _ (job : JobValue) (slot d : ℕ) (v : State) (p : IsPartAfter job slot d v) (apart : owner_of_slot (plan_of job) slot ≢ d) where
   abbrev x : Machine
@@ -77,7 +80,7 @@ module _ (job : JobValue) (slot d : ℕ) (v : State) (p : IsPartAfter job slot d
       (phases_at job is slot job.shape.cores (omega arith))
 
   before : IsCoreIn job d y v
-  before = record { stands = carried job slot d v p; claims = claims_carried job slot d v p; once = p.in_slot.once }
+  before = record { stands = carried job slot d v p; knows = knows_carried job slot d v p }
 
   all : IsActionSnooped job y c d v (record_at job slot)
   all = action_snooped job y c d v whole (mod_below x.slot job.shape.cores is.shape.some_cores) other (want_asked_between job is slot job.shape.cores c) before
@@ -98,7 +101,7 @@ module _ (job : JobValue) (slot d : ℕ) (v : State) (p : IsPartAfter job slot d
   next_core_in : IsCoreIn job d (machine_at job (slot + 1)) w
   unfolding slot_done
   next_core_in = let h : IsCoreIn job d (after_action y c (record_at job slot)) w = all.core_in in
-      subst (λ (m : Machine). IsCoreIn job d m w) (sym (next_machine job slot)) (record { stands = h.stands; claims = h.claims; once = h.once })
+      subst (λ (m : Machine). IsCoreIn job d m w) (sym (next_machine job slot)) (record { stands = h.stands; knows = h.knows })
 
   rows_next : HasRows job (slot + 1) d (stepped w)
   rows_next = let mine : Row → Bool = λ row. row.core == d in let more : List Row = slot_rows job x (record_at job slot) in record {
@@ -122,8 +125,7 @@ module _ (job : JobValue) (slot d : ℕ) (v : State) (p : IsPartAfter job slot d
   snooped_part = record {
     in_slot = record {
       stands = stands_stepped job d (context_of (machine_at job (slot + 1)) d) w next_core_in.stands;
-      claims = next_core_in.claims;
-      once = next_core_in.once;
+      knows = knows_stepped (machine_at job (slot + 1)).posted d w next_core_in.knows;
       now = ap (λ (n : ℕ). n + 1) (ap (λ (u : Untouched). u.slot) run ∙ p.in_slot.now);
       within = (let more = p.more in omega arith);
       rows = rows_next;

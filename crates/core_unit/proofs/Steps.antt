@@ -10,6 +10,7 @@ use Rattle.pmsi_model.specs.declared.Kind.{Kind}
 use Rattle.pmsi_model.specs.declared.Kind.TheVariants.{Read, Write}
 use Rattle.pmsi_model.specs.declared.Mode.{Mode}
 use Rattle.pmsi_model.specs.declared.Mode.TheVariants.{Shared, Modified}
+use Rattle.pmsi_model.specs.declared.Row.{Row}
 use Rattle.pmsi_model.specs.declared.Status.TheVariants.{Halted}
 use Rattle.pmsi_model.specs.declared.Want.{Want}
 use Rattle.pmsi_model.specs.Words.{number_of}
@@ -19,21 +20,27 @@ use Rattle.pmsi_model.specs.Job.{JobValue, IsJob, text_of}
 use Rattle.pmsi_model.specs.Effect.{Effect, Next, Memory, Stop, effect_of, with_reg, next_pc}
 use Rattle.pmsi_model.specs.declared.instr.Instr.{Instr}
 use Rattle.pmsi_model.specs.Machine.{CoreState, mode_of}
-use Rattle.pmsi_model.specs.Phase.{Context, met_bytes, memory_after, retired_with, evicted, drop_shared, victim_of, append_victim, missed, after_effect, accessed, is_permitted, permits, touched_line, can_run, instruction, effect_at, effect_of_word, effect_of_fetch}
+use Rattle.pmsi_model.specs.Phase.{Context, met_bytes, memory_after, retired_with, missed, after_effect, accessed, is_permitted, permits, touched_line, can_run, instruction, effect_at, effect_of_word, effect_of_fetch}
 use Rattle.pmsi_model.proofs.Held.{mode_to_front}
 use Rattle.cache_array.specs.declared.line.CachedLine.{CachedLine}
 use Rattle.cache_array.specs.Cache.{CacheValue, held_of, words_of, word_place, with_word, touched}
-use Rattle.cache_array.proofs.Exports.{held_of-others, held_of-with_word, held_of-touched, words_of-with_word, words_of-touched}
+use Rattle.cache_array.proofs.Exports.{held_of-with_word, held_of-touched, words_of-with_word, words_of-touched}
+use Rattle.cache_ctrl.specs.declared.states.LineState.{LineState}
+use Rattle.pend_buffers.specs.Pending.{PendingValue}
 use Rattle.core_unit.specs.declared.state.State.{State}
+use Rattle.core_unit.specs.Reserved.{Reserved}
 use Rattle.pmsi_model.specs.Parts.{word_at}
-use Rattle.core_unit.specs.State.{core_of, with_lines, lines_after, lines_with, met_in, performed, gone_for, lines_without, with_room, wanting}
+use Rattle.core_unit.specs.State.{core_of, with_lines, lines_after, lines_with, met_in, performed, gone_for, wanting}
 use Rattle.rv_exec.specs.Effects.{IsAccessTo}
 use Rattle.rv_exec.specs.Accesses.{bytes_after, covered}
-use Rattle.core_unit.specs.Stands.{with_memory, IsWantOf, CopiesAgree, Carries, StandsFor}
+use Rattle.core_unit.specs.Stands.{with_memory, CanExecute, CanMakeRoom, IsWantOf, CopiesAgree, Carries, KeepsStates, KnowsStates, SameRun, StandsFor}
 use Rattle.pmsi_model.proofs.Accesses.{IsFit, granted_held, lane_fits, length-memory_after, memory_after_below, read_after}
 use Rattle.pmsi_model.proofs.Effects.{whole_words}
 use Rattle.core_unit.proofs.Copies.{covered_is, word_at-after, place_of_word, place_below, copies_same, copies_written}
-use Rattle.core_unit.proofs.Carried.{copies_dropped, rebuilt, relined, unchanged}
+use Rattle.core_unit.proofs.Carried.{rebuilt, relined, unchanged}
+use Rattle.core_unit.proofs.Changed.{keeps_known}
+use Rattle.core_unit.proofs.Evictions.{IsChosen, chosen_agree, chosen_frame, is_chosen, makes_room, missed_core, missed_knows}
+use Rattle.core_unit.proofs.Untouched.{Untouched, chosen-run}
 use Rattle.core_unit.proofs.Words.{some_words}
 
 pub either : {A B C : Type 0} → (A → C) → (B → C) → A ⊎ B → C
@@ -161,38 +168,8 @@ hits job c memory v slot access s is granted = let line : ℕ = line_of job.shap
 
 -- ---- a miss
 
-dropped_held : (gone : Option (ℕ × Mode)) (lines : List CachedLine) → held_of (lines_without gone lines) ≡ drop_shared gone (held_of lines)
-dropped_held None lines = refl
-dropped_held (Some (line, Shared)) lines = held_of-others line lines
-dropped_held (Some (line, Modified)) lines = refl
-
-dropped_agree : (job : JobValue) (memory : List ℕ) (gone : Option (ℕ × Mode)) (lines : List CachedLine) → CopiesAgree job memory lines
-    → CopiesAgree job memory (lines_without gone lines)
-dropped_agree job memory None lines agree = agree
-dropped_agree job memory (Some (line, Shared)) lines agree = copies_dropped job memory line lines agree
-dropped_agree job memory (Some (line, Modified)) lines agree = agree
-
 denied_missed : (shape : Geometry) (slot : ℕ) (access : Access) (x : Context) → is_permitted shape access x.core ≡ false → after_effect shape slot (Memory access) x ≡ record x { core = missed shape slot access x.core }
 denied_missed shape slot access x denied = grind arith
-
--- the core that misses is that of the state that does
-missed_core : (slot : ℕ) (shape : Geometry) (access : Access) (v : State) → v.cache.shape ≡ shape → v.slot ≡ slot → missed shape slot access (core_of v) ≡ core_of (wanting access (line_of shape access.address) v)
-missed_core slot shape access v cache now =
-    let line : ℕ = line_of shape access.address in
-    let k : CoreState = core_of v in
-    ap (λ (g : Geometry). let gone : Option (ℕ × Mode) = evicted g line k.held in let j : CoreState = record k {
-      held = drop_shared gone k.held;
-      want = Some (record { line = line; kind = kind_of access.op; issue = slot; post = None; victim = victim_of gone; access = access });
-      write_backs = append_victim (victim_of gone) k.write_backs;
-    } in j) (sym cache)
-    ∙ ap (λ (h : List (ℕ × Mode)). let gone : Option (ℕ × Mode) = gone_for line v in let j : CoreState = record k {
-      held = h;
-      want = Some (record { line = line; kind = kind_of access.op; issue = slot; post = None; victim = victim_of gone; access = access });
-      write_backs = append_victim (victim_of gone) k.write_backs;
-    } in j) (sym (dropped_held (gone_for line v) v.cache.lines))
-    ∙ ap (λ (s : ℕ). let gone : Option (ℕ × Mode) = gone_for line v in let j : CoreState = record (core_of (with_room line v)) {
-      want = Some (record { line = line; kind = kind_of access.op; issue = s; post = None; victim = victim_of gone; access = access });
-    } in j) (sym now)
 
 abbrev IfWanted : JobValue → Option Want → Type 0
 IfWanted job None = Unit {0}
@@ -205,13 +182,14 @@ new_want : (job : JobValue) (access : Access) (v : State) (want : Want) → IsAc
 new_want job access v want is wants = let P : Option Want → Type 0 = λ o. IfWanted job o in if_wanted job want (subst P wants (record { access = is; line = refl; kind = refl }))
 
 pub misses : (job : JobValue) (c : ℕ) (memory : List ℕ) (v : State) (slot : ℕ) (access : Access) → Carries job c memory v → v.slot ≡ slot → IsAccessTo job.shape.memory access →
-    is_permitted job.shape access (core_of v) ≡ false → StandsFor job c (after_effect job.shape slot (Memory access) (with_memory memory v)) (wanting access (line_of job.shape access.address) v)
-misses job c memory v slot access s now is denied = let line : ℕ = line_of job.shape access.address in
+    is_permitted job.shape access (core_of v) ≡ false → IsChosen (gone_for (line_of job.shape access.address) v) v →
+    StandsFor job c (after_effect job.shape slot (Memory access) (with_memory memory v)) (wanting access (line_of job.shape access.address) v)
+misses job c memory v slot access s now is denied gone = let line : ℕ = line_of job.shape access.address in
     subst (λ y. StandsFor job c y (wanting access line v)) (sym (denied_missed job.shape slot access (with_memory memory v) denied)) (record {
-      carries = relined job c memory v (wanting access line v) s refl
-          (dropped_agree job memory (gone_for line v) v.cache.lines s.agree)
+      carries = relined job c memory v (wanting access line v) s (chosen_frame (gone_for line v) v)
+          (chosen_agree job memory (gone_for line v) v s.agree)
           (λ want wants. new_want job access v want is wants);
-      core = missed_core slot job.shape access v s.cache now;
+      core = missed_core slot job.shape access v s.cache now gone;
     })
 
 -- ---- as the code has them
@@ -231,11 +209,86 @@ access_hits job c memory v u cache line access s is at granted done front =
     (hits job c memory v v.slot access s (within_job job c memory v access s is) (sym (ap (λ (l : ℕ). permits (kind_of access.op) (mode_of l (held_of v.cache.lines))) same) ∙ granted))
 
 pub access_misses : (job : JobValue) (c : ℕ) (memory : List ℕ) (v u : State) (line : ℕ) (access : Access) → Carries job c memory v → IsAccessTo v.shape.memory access → line ≡ line_of v.shape access.address →
-    permits (kind_of access.op) (mode_of line (held_of v.cache.lines)) ≡ false → u ≡ wanting access line v → StandsFor job c (after_effect job.shape v.slot (Memory access) (with_memory memory v)) u
-access_misses job c memory v u line access s is at denied done =
+    permits (kind_of access.op) (mode_of line (held_of v.cache.lines)) ≡ false → IsChosen (gone_for line v) v → u ≡ wanting access line v →
+    StandsFor job c (after_effect job.shape v.slot (Memory access) (with_memory memory v)) u
+access_misses job c memory v u line access s is at denied gone done =
     let same : line ≡ line_of job.shape access.address = at ∙ ap (λ (g : Geometry). line_of g access.address) s.shape in
     subst (StandsFor job c (after_effect job.shape v.slot (Memory access) (with_memory memory v))) (sym (done ∙ ap (λ (l : ℕ). wanting access l v) same))
-    (misses job c memory v v.slot access s refl (within_job job c memory v access s is) (sym (ap (λ (l : ℕ). permits (kind_of access.op) (mode_of l (held_of v.cache.lines))) same) ∙ denied))
+    (misses job c memory v v.slot access s refl (within_job job c memory v access s is) (sym (ap (λ (l : ℕ). permits (kind_of access.op) (mode_of l (held_of v.cache.lines))) same) ∙ denied)
+    (subst (λ (l : ℕ). IsChosen (gone_for l v) v) same gone))
+
+-- ---- the run of a core goes on
+
+-- what an instruction leaves as it is
+pub record Run : Type 0 where
+  pub slot : ℕ
+  pub rows : Reserved Row
+  pub keeps : Bool
+  pub room : ℕ
+  pub phase_done : Bool
+  pub states : List LineState
+  pub pending : PendingValue
+
+abbrev pub run_of : State → Run
+run_of v = record {
+  slot = v.slot;
+  rows = v.rows;
+  keeps = v.keeps;
+  room = v.touches.room;
+  phase_done = v.phase_done;
+  states = v.states;
+  pending = v.pending;
+}
+
+abbrev SameModes : State → State → Type 0
+SameModes v u = (l : ℕ) → mode_of l (held_of u.cache.lines) ≡ mode_of l (held_of v.cache.lines)
+
+-- it has no access, or one with permission
+pub same_run : (v u : State) → run_of u ≡ run_of v → SameModes v u → SameRun v u
+same_run v u same modes = record {
+  slot = ap (λ (r : Run). r.slot) same;
+  rows = ap (λ (r : Run). r.rows) same;
+  keeps = ap (λ (r : Run). r.keeps) same;
+  room = ap (λ (r : Run). r.room) same;
+  phase_done = ap (λ (r : Run). r.phase_done) same;
+  states = keeps_known v u (ap (λ (r : Run). r.states) same) (ap (λ (r : Run). r.pending) same) modes;
+}
+
+hit_mode : (l line : ℕ) (access : Access) (v : State) → mode_of l (held_of (hit_state line access v).cache.lines) ≡ mode_of l (held_of v.cache.lines)
+hit_mode l line access v = let lines : List CachedLine = (performed access v).cache.lines in
+    ap (mode_of l) (held_of-touched line lines) ∙ touched_mode l line (mode_of line (held_of lines)) (held_of lines) refl ∙ ap (mode_of l) (performed_held access v)
+
+pub hit_run : (line : ℕ) (access : Access) (v u : State) (cache : CacheValue) → u ≡ performed access v → cache ≡ record u.cache { lines = touched line u.cache.lines }
+    → SameRun v (record u { cache = cache })
+hit_run line access v u cache done front = subst (SameRun v) (sym (hit_is line access v u cache done front))
+    (same_run v (hit_state line access v) refl (λ l. hit_mode l line access v))
+
+module _ (v : State) (access : Access) (can : CanExecute v) (line : ℕ) (at : line ≡ line_of v.shape access.address) where
+  line_there : line ≡ line_of v.cache.shape access.address
+  line_there = at ∙ ap (λ (g : Geometry). line_of g access.address) (can.carries.shape ∙ sym can.carries.cache)
+
+  pub gone_chosen : IsChosen (gone_for line v) v
+  gone_chosen = subst (λ (l : ℕ). IsChosen (gone_for l v) v) (sym line_there)
+      (is_chosen access can.posted can.core v can.once can.unasked can.wants_nothing can.knows)
+
+  pub can_miss : CanMakeRoom line v
+  can_miss = subst (λ (l : ℕ). CanMakeRoom l v) (sym line_there)
+      (makes_room access can.posted can.core v can.once can.unasked can.wants_nothing can.knows can.backs
+      (let few = can.carries.within.shape.cores in let same = can.carries.cores in omega arith))
+
+  missed_keeps : KeepsStates v (wanting access line v)
+  missed_keeps posted c unasked knows = subst (λ (l : ℕ). KnowsStates posted c (wanting access l v)) (sym line_there)
+      (missed_knows access posted c v can.once unasked can.wants_nothing knows)
+
+  pub missed_run : (u : State) → u ≡ wanting access line v → SameRun v u
+  missed_run u is = let run = chosen-run (gone_for line v) v in subst (SameRun v) (sym is) (record {
+    slot = ap (λ (r : Untouched). r.slot) run;
+    rows = ap (λ (r : Untouched). r.rows) run;
+    keeps = ap (λ (r : Untouched). r.keeps) run;
+    room = ap (λ (r : Untouched). r.touches.room) run;
+    phase_done = ap (λ (r : Untouched). r.phase_done) run;
+    states = missed_keeps;
+  })
 
 -- ---- an instruction
 

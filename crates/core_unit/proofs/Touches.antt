@@ -21,9 +21,10 @@ use Rattle.cache_array.specs.Cache.{held_of}
 use Rattle.rv_exec.specs.Accesses.{covered}
 use Rattle.rv_exec.specs.Effects.{IsAccessTo}
 use Rattle.core_unit.specs.declared.state.State.{State}
-use Rattle.core_unit.specs.State.{core_of, met_in, more_touches, performed, touch_on, wanting}
+use Rattle.core_unit.specs.State.{core_of, gone_for, met_in, more_touches, performed, touch_on, wanting}
 use Rattle.core_unit.specs.Stands.{Carries, HasTouched}
 use Rattle.core_unit.specs.Parts.{HasTouches, standing}
+use Rattle.core_unit.proofs.Untouched.{Untouched, chosen-run}
 use Rattle.core_unit.proofs.Steps.{met_covered}
 
 -- ---- no access
@@ -88,7 +89,8 @@ pub touches_miss : (job : JobValue) (c : ℕ) (memory : List ℕ) (v u : State) 
     → HasTouched (touch_list v.slot c (access_if_permitted job.shape (core_of v) (Memory access)) memory) v u
 touches_miss job c memory v u line access s at denied done =
     untouched v.slot c memory v u (access_if_permitted job.shape (core_of v) (Memory access))
-    (denied_access job.shape access (core_of v) (permitted_by job c memory v line access s at ∙ denied)) (ap (λ (w : State). w.touches.items) done)
+    (denied_access job.shape access (core_of v) (permitted_by job c memory v line access s at ∙ denied))
+    (ap (λ (w : State). w.touches.items) done ∙ ap (λ (r : Untouched). r.touches.items) (chosen-run (gone_for line v) v))
 
 -- ---- an instruction
 

@@ -6,18 +6,21 @@ use Rattle.pmsi_model.specs.declared.Want.{Want}
 use Rattle.pmsi_model.specs.Job.{JobValue}
 use Rattle.pmsi_model.specs.Slots.{plan_of, owner_of_slot}
 use Rattle.pmsi_model.specs.Run.{record_at}
-use Rattle.pmsi_model.specs.Machine.{removed}
-use Rattle.pmsi_model.specs.Shared.{SharedValue, BusSide, CanFill, CanPost, CanWriteBack, behind_in, line_in, side_back, side_filled, side_posted}
+use Rattle.pmsi_model.specs.Shared.{SharedValue, BusSide, CanFill, CanPost, CanWriteBack, line_in, side_back, side_filled, side_posted}
 use Rattle.pmsi_model.specs.Parts.{IsBusPart}
+use Rattle.cache_ctrl.specs.declared.Event.TheVariants.{OwnBack}
+use Rattle.cache_ctrl.specs.Duties.{own_event}
 use Rattle.cache_array.specs.Cache.{Holds, words_of}
 use Rattle.core_unit.specs.declared.state.State.{State}
-use Rattle.core_unit.specs.State.{asked, backed, fills_at_once, keeps, name_for, posted_action, posted_state, served}
+use Rattle.core_unit.specs.Changes.{CanChange}
+use Rattle.core_unit.specs.State.{asked, backed, fills_at_once, keeps, name_for, popped, posted_action, posted_state, served}
 use Rattle.core_unit.specs.Stands.{CanServe}
 use Rattle.core_unit.specs.Parts.{IsPart, IsPartAfter}
 
--- a line is held, and owned as the bus has it
-pub record CanBack (line : ℕ) (v : State) (m : SharedValue) : Type 0 where
+-- the first line is held, and owned as the bus has it, and its state can change
+pub record CanBack (line : ℕ) (lines : List ℕ) (v : State) (m : SharedValue) : Type 0 where
   pub held : Holds line v.cache.lines
+  pub changes : CanChange OwnBack line (popped lines v)
   pub can : CanWriteBack v.number line (words_of line v.cache.lines) m
 
 -- the line is written back
@@ -29,7 +32,8 @@ pub record IsBacked (line : ℕ) (lines : List ℕ) (v : State) (b : BusSide) (a
 -- the request of a want can be posted
 pub record CanPostFor (want : Want) (v : State) (m : SharedValue) : Type 0 where
   pub can : CanPost v.number want.line m
-  pub serve : fills_at_once want m v ≡ true → CanServe want (line_in m want.line) (asked v)
+  pub changes : CanChange (own_event want.kind) want.line v
+  pub serve : fills_at_once want m v ≡ true → CanServe want (line_in m want.line) (asked want v)
 
 -- and one that was posted can be served
 pub record CanFillFor (want : Want) (v : State) (m : SharedValue) : Type 0 where
@@ -49,7 +53,7 @@ pub record IsPosted (want : Want) (v : State) (b : BusSide) (action : Action) (w
 -- the request, which was posted in the slot `post`, is served
 pub record IsFilled (want : Want) (post : ℕ) (v : State) (b : BusSide) (action : Action) (w : State) (after : BusSide) : Type 0 where
   pub what : action ≡ Fill want.line
-  pub core : w ≡ served want (line_in b.memory want.line) post (behind_in want.line (removed v.number b.memory.posted)) v
+  pub core : w ≡ served want (line_in b.memory want.line) post v
   pub side : after ≡ side_filled v.number want.line b
 
 abbrev pub IsRequested : Option ℕ → Want → State → BusSide → Action → State → BusSide → Type 0

@@ -1,6 +1,6 @@
 pub mod Reserved
-pub mod Lines
 pub mod Copies
+pub mod Changes
 pub mod State
 pub mod Stands
 pub mod Parts

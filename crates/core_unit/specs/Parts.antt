@@ -1,28 +1,19 @@
 -- What a core has of a run: at the boundary of a slot, and once its phase is done.
-use Rattle.std.specs.Prelude.{◌≡◌, ◌≢◌, ◌⊎◌, ℕ, ◌+◌, ◌*◌, ◌<◌, ◌≤◌, ◌==◌, ◌&&◌, List, [], ◌++◌, length, true, false, Option, Some, None, if◌then◌else◌}
+use Rattle.std.specs.Prelude.{◌≡◌, ◌≢◌, ◌⊎◌, ℕ, ◌+◌, ◌*◌, ◌<◌, ◌≤◌, ◌==◌, List, [], ◌++◌, length, true, false, Option, Some, None, if◌then◌else◌}
 use Rattle.std.specs.List.{filter}
 use Rattle.pmsi_model.specs.declared.Action.{Action}
 use Rattle.pmsi_model.specs.declared.Touch.{Touch}
 use Rattle.pmsi_model.specs.declared.Want.{Want}
 use Rattle.pmsi_model.specs.Job.{JobValue}
 use Rattle.pmsi_model.specs.Slots.{plan_of, own_slots, owner_of_slot}
-use Rattle.pmsi_model.specs.Machine.{Request, has_line, has_write}
-use Rattle.pmsi_model.specs.Coherent.{ListsEachOnce}
+use Rattle.pmsi_model.specs.Machine.{Request}
 use Rattle.pmsi_model.specs.Phase.{Context, context_of, phase, phase_touches}
 use Rattle.pmsi_model.specs.Rows.{rows_of}
 use Rattle.pmsi_model.specs.Run.{machine_at, record_at, touches_of}
 use Rattle.pmsi_model.specs.Shared.{BusSide}
 use Rattle.pmsi_model.specs.Parts.{IsBusPart}
 use Rattle.core_unit.specs.declared.state.State.{State}
-use Rattle.core_unit.specs.Stands.{StandsFor}
-
--- the claimed lines are those to write back for which a write is queued
-abbrev pub AreClaims : List Request → List ℕ → List ℕ → Type 0
-AreClaims posted backs claimed = (line : ℕ) → has_line line claimed ≡ (has_line line backs && has_write line posted)
-
--- a core knows for which of the lines that it has to write back a write is queued
-abbrev pub KnowsClaims : List Request → State → Type 0
-KnowsClaims posted v = AreClaims posted v.pending.write_backs v.claimed
+use Rattle.core_unit.specs.Stands.{KnowsStates, StandsFor}
 
 -- a core's rows so far, with room for those to come: it fills in own slots alone
 pub record HasRows (job : JobValue) (slot c : ℕ) (v : State) : Type 0 where
@@ -50,8 +41,7 @@ pub record HasTouches (job : JobValue) (so_far : List Touch) (most : ℕ) (v : S
 -- a core in a slot, as it stands in a context with these requests
 pub record IsInSlot (job : JobValue) (slot c : ℕ) (y : Context) (posted : List Request) (v : State) : Type 0 where
   pub stands : StandsFor job c y v
-  pub claims : KnowsClaims posted v
-  pub once : ListsEachOnce v.claimed
+  pub knows : KnowsStates posted c v
   pub now : v.slot ≡ slot
   pub within : slot ≤ job.shape.slots
   pub rows : HasRows job slot c v

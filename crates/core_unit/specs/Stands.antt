@@ -1,24 +1,30 @@
 -- A state stands for a core of the written machine, and the memory that it sees.
-use Rattle.std.specs.Prelude.{◌≡◌, ◌≢◌, ◌⊎◌, ℕ, ◌+◌, ◌%◌, ◌^◌, ◌<◌, List, length, Some, None, true}
+use Rattle.std.specs.Prelude.{◌≡◌, ◌≢◌, ◌⊎◌, ℕ, ◌+◌, ◌%◌, ◌^◌, ◌<◌, List, length, Some, None, true, option_map}
 use Rattle.std.specs.List.{All}
-use Rattle.pmsi_model.specs.declared.Kind.TheVariants.{Write}
+use Rattle.pmsi_model.specs.declared.Mode.{Mode}
+use Rattle.pmsi_model.specs.declared.Mode.TheVariants.{Shared, Modified}
+use Rattle.pmsi_model.specs.declared.State.{State as LineName}
+use Rattle.pmsi_model.specs.declared.State.TheVariants.{I, MIWB}
 use Rattle.pmsi_model.specs.declared.Touch.{Touch}
-use Rattle.pmsi_model.specs.declared.limits.TheConstants.{MAX_CORES}
 use Rattle.pmsi_model.specs.declared.Want.{Want}
 use Rattle.pmsi_model.specs.Geometry.{IsGeometry, line_of}
 use Rattle.pmsi_model.specs.Access.{kind_of, width_of}
 use Rattle.pmsi_model.specs.Job.{JobValue, IsJob, text_of}
 use Rattle.pmsi_model.specs.Slots.{plan_of}
 use Rattle.pmsi_model.specs.Coherent.{HoldsEachOnce}
-use Rattle.pmsi_model.specs.Machine.{mode_of, has_line}
+use Rattle.pmsi_model.specs.Machine.{Request, mode_of, request_of}
+use Rattle.pmsi_model.specs.Named.{state_in}
 use Rattle.pmsi_model.specs.Effect.{Effect}
 use Rattle.pmsi_model.specs.Phase.{Context, access_at, access_if_permitted, after_effect, instruction, set_lines, touch_list}
+use Rattle.cache_ctrl.specs.declared.Event.TheVariants.{Choose, OwnFill}
+use Rattle.cache_ctrl.specs.States.{AreTransient, Knows}
 use Rattle.cache_array.specs.declared.line.CachedLine.{CachedLine}
 use Rattle.cache_array.specs.Cache.{Holds as IsHeld, held_of, words_of}
 use Rattle.rv_exec.specs.Effects.{IsAccessTo}
 use Rattle.core_unit.specs.declared.state.State.{State}
 use Rattle.core_unit.specs.Copies.{AreCopies}
-use Rattle.core_unit.specs.State.{core_of, more_touches}
+use Rattle.core_unit.specs.Changes.{CanChange, next_for}
+use Rattle.core_unit.specs.State.{core_of, gone_for, more_touches}
 
 -- a want for an access to its line
 pub record IsWantOf (job : JobValue) (want : Want) : Type 0 where
@@ -54,15 +60,23 @@ pub record StandsFor (job : JobValue) (c : ℕ) (y : Context) (v : State) : Type
   pub carries : Carries job c y.memory v
   pub core : y.core ≡ core_of v
 
--- the slot, the mark of its phase, the rows and what is known of other cores' requests stay, and so does whether accesses
--- are kept, and their room
+-- a core knows the states of its lines: the listed states and the modes give those of the machine, and a line is listed once
+pub record KnowsStates (posted : List Request) (c : ℕ) (v : State) : Type 0 where
+  pub names : Knows v.states (core_of v) (state_in posted c (core_of v))
+  pub once : AreTransient v.states
+
+-- where it knew them it knows them, as long as it has no request
+abbrev pub KeepsStates : State → State → Type 0
+KeepsStates old new = (posted : List Request) (c : ℕ) → request_of c posted ≡ None → KnowsStates posted c old → KnowsStates posted c new
+
+-- the slot, the mark of its phase and the rows stay, and so does whether accesses are kept, and their room
 pub record SameRun (old new : State) : Type 0 where
   pub slot : new.slot ≡ old.slot
   pub rows : new.rows ≡ old.rows
   pub keeps : new.keeps ≡ old.keeps
   pub room : new.touches.room ≡ old.touches.room
-  pub claimed : new.claimed ≡ old.claimed
   pub phase_done : new.phase_done ≡ old.phase_done
+  pub states : KeepsStates old new
 
 -- these accesses were done, and are kept where accesses are
 abbrev pub HasTouched : List Touch → State → State → Type 0
@@ -100,7 +114,22 @@ TouchesNext old new =
 abbrev pub HasTouchRoom : State → Type 0
 HasTouchRoom v = v.keeps ≡ true → length v.touches.items < v.touches.room
 
--- a state of some job can execute an instruction: no line is held twice, and there is room for a victim
+-- the state of a chosen line by the mode that it had
+abbrev pub name_chosen : Mode → LineName
+name_chosen Shared = I
+name_chosen Modified = MIWB
+
+-- a line can be chosen, and its new state tells whether it is to be written back
+pub record CanChoose (gone : ℕ × Mode) (v : State) : Type 0 where
+  pub changes : CanChange Choose gone.0 v
+  pub goes : option_map (λ next. next.0) (next_for Choose gone.0 v) ≡ Some (name_chosen gone.1)
+
+-- the line that has to leave for another can be chosen
+abbrev pub CanMakeRoom : ℕ → State → Type 0
+CanMakeRoom line v = (gone : ℕ × Mode) → gone_for line v ≡ Some gone → CanChoose gone v
+
+-- a state of some job can execute an instruction: no line is held twice, there is room for a victim, and the core has no
+-- request and knows the states of its lines
 pub record CanExecute (v : State) : Type 0 where
   pub job : JobValue
   pub core : ℕ
@@ -111,16 +140,16 @@ pub record CanExecute (v : State) : Type 0 where
   pub retires : v.retired + 1 < 2 ^ 64
   pub touches : HasTouchRoom v
   pub wants_nothing : v.pending.want ≡ None
+  pub posted : List Request
+  pub unasked : request_of core posted ≡ None
+  pub knows : KnowsStates posted core v
 
--- the words of a wanted line can be taken: the line has room in the cache and, if it is written, among the lines to write
--- back and the claimed ones
+-- the words of a wanted line can be taken: the line has room in the cache, and its state can change
 pub record CanTake (want : Want) (words : List ℕ) (v : State) : Type 0 where
   pub cache : v.cache.shape ≡ v.shape
   pub count : length words ≡ v.shape.line_words
   pub fits : IsHeld want.line v.cache.lines ⊎ (length (set_lines v.shape want.line (held_of v.cache.lines)) < v.shape.ways)
-  pub backs : want.kind ≡ Write → length v.pending.write_backs < v.pending.cores
-  pub unqueued : want.kind ≡ Write → has_line want.line v.pending.write_backs ≢ true
-  pub claims : want.kind ≡ Write → length v.claimed < MAX_CORES
+  pub changes : CanChange OwnFill want.line v
 
 -- a want can be served
 pub record CanServe (want : Want) (words : List ℕ) (v : State) : Type 0 where

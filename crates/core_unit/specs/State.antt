@@ -1,19 +1,18 @@
 -- What the parts of a slot do to a core.
-use Rattle.std.specs.Prelude.{◌≡◌, ℕ, ◌+◌, List, [], ◌∷◌, ◌++◌, not, ◌&&◌, slice_index, slice_set, Bool, false, Option, Some, None, if◌then◌else◌}
+use Rattle.std.specs.Prelude.{◌≡◌, ℕ, ◌+◌, List, [], ◌∷◌, ◌++◌, slice_index, slice_set, Bool, false, Option, Some, None, if◌then◌else◌}
 use Rattle.std.specs.Option.{option_map}
 use Rattle.pmsi_model.specs.declared.job.Geometry.{Geometry}
 use Rattle.pmsi_model.specs.declared.Access.{Access}
 use Rattle.pmsi_model.specs.declared.AccessOp.{AccessOp}
 use Rattle.pmsi_model.specs.declared.Action.{Action}
 use Rattle.pmsi_model.specs.declared.Action.TheVariants.{Idle, Post, Fill, PostFill, Back}
-use Rattle.pmsi_model.specs.declared.Behind.{Behind}
-use Rattle.pmsi_model.specs.declared.Behind.TheVariants.{Nobody, Reads, Write as WriteBehind}
 use Rattle.pmsi_model.specs.declared.Kind.{Kind}
 use Rattle.pmsi_model.specs.declared.Kind.TheVariants.{Read, Write}
 use Rattle.pmsi_model.specs.declared.Mode.{Mode}
-use Rattle.pmsi_model.specs.declared.Mode.TheVariants.{Shared, Modified}
+use Rattle.pmsi_model.specs.declared.Mode.TheVariants.{Shared}
 use Rattle.pmsi_model.specs.declared.Name.{Name}
 use Rattle.pmsi_model.specs.declared.Row.{Row}
+use Rattle.pmsi_model.specs.declared.State.{State as LineName}
 use Rattle.pmsi_model.specs.declared.Touch.{Touch}
 use Rattle.pmsi_model.specs.declared.Turn.TheVariants.{Request as RequestTurn, WriteBack as WriteBackTurn}
 use Rattle.pmsi_model.specs.declared.Want.{Want}
@@ -22,14 +21,17 @@ use Rattle.pmsi_model.specs.Words.{number_of}
 use Rattle.pmsi_model.specs.Access.{access_bytes, access_value, kind_of, width_of}
 use Rattle.rv_exec.specs.Accesses.{bytes_after, covered}
 use Rattle.pmsi_model.specs.Effect.{with_reg, next_pc}
-use Rattle.pmsi_model.specs.Machine.{CoreState, is_modified, is_write, mode_of, has_line, append_once}
-use Rattle.pmsi_model.specs.Phase.{evicted, victim_of, append_victim}
-use Rattle.pmsi_model.specs.Bus.{clear_victim, has_victim_for, kind_of_name, name_of, post_at}
+use Rattle.pmsi_model.specs.Machine.{CoreState, mode_of}
+use Rattle.pmsi_model.specs.Phase.{evicted, victim_of}
+use Rattle.pmsi_model.specs.Bus.{clear_victim, kind_of_name, name_of, post_at}
 use Rattle.pmsi_model.specs.Shared.{SharedValue, line_in, fills_at_once as at_once}
+use Rattle.cache_ctrl.specs.declared.Duty.{Duty}
+use Rattle.cache_ctrl.specs.declared.Event.TheVariants.{OwnFill, OwnBack, Choose}
+use Rattle.cache_ctrl.specs.Duties.{other_event, own_event}
 use Rattle.cache_array.specs.declared.line.CachedLine.{CachedLine}
-use Rattle.cache_array.specs.Cache.{CacheValue, held_of, words_of, word_place, way_of, others, with_word, with_line_mode, put_first}
+use Rattle.cache_array.specs.Cache.{CacheValue, held_of, words_of, word_place, way_of, with_word, with_line_mode, put_first}
 use Rattle.core_unit.specs.declared.state.State.{State}
-use Rattle.core_unit.specs.Lines.{without_line}
+use Rattle.core_unit.specs.Changes.{changed, mode_in_state, next_for, state_name, stays_in}
 
 -- what the machine has of a core
 abbrev pub core_of : State → CoreState
@@ -112,18 +114,14 @@ performed access v = record (retired_on access (met_in access v.cache) v) { cach
 abbrev pub gone_for : ℕ → State → Option (ℕ × Mode)
 gone_for line v = evicted v.cache.shape line (held_of v.cache.lines)
 
--- a shared line leaves at once
-abbrev pub lines_without : Option (ℕ × Mode) → List CachedLine → List CachedLine
-lines_without None lines = lines
-lines_without (Some h) lines = if is_modified (Some h.1) then lines else others h.0 lines
+-- its state changes: a shared line is dropped, and one that the core owns is to be written back
+abbrev pub chosen : Option (ℕ × Mode) → State → State
+chosen None v = v
+chosen (Some h) v = changed Choose h.0 v
 
 -- room is made for a line
 abbrev pub with_room : ℕ → State → State
-with_room line v =
-    record v {
-      cache = record v.cache { lines = lines_without (gone_for line v) v.cache.lines };
-      pending = record v.pending { write_backs = append_victim (victim_of (gone_for line v)) v.pending.write_backs };
-    }
+with_room line v = chosen (gone_for line v) v
 
 abbrev pub wanting : Access → ℕ → State → State
 wanting access line v = record (with_room line v) {
@@ -142,33 +140,21 @@ met_among shape access words = slice_index words (word_place shape access.addres
 abbrev pub words_with : Geometry → Access → List ℕ → List ℕ
 words_with shape access words = slice_set words (word_place shape access.address) (number_of (bytes_after access (met_among shape access words)))
 
--- a write leaves the line modified, a read shared, unless a write is queued behind it
-abbrev pub lines_filled : Geometry → Kind → Behind → ℕ → List ℕ → List CachedLine → List CachedLine
-lines_filled shape Read Nobody line words lines = put_first shape line Shared words lines
-lines_filled shape Read Reads line words lines = put_first shape line Shared words lines
-lines_filled shape Read WriteBehind line words lines = lines
-lines_filled shape Write behind line words lines = put_first shape line Modified words lines
+-- a line comes into the cache in this mode, or not at all
+abbrev pub lines_taken : Option Mode → Geometry → ℕ → List ℕ → List CachedLine → List CachedLine
+lines_taken None shape line words lines = lines
+lines_taken (Some mode) shape line words lines = put_first shape line mode words lines
 
--- whoever owns the line now has to write it back, if requests are queued
-abbrev pub backs_filled : Kind → Behind → ℕ → List ℕ → List ℕ
-backs_filled Read behind line lines = lines
-backs_filled Write Nobody line lines = lines
-backs_filled Write Reads line lines = lines ++ line ∷ []
-backs_filled Write WriteBehind line lines = lines ++ line ∷ []
+-- the mode by the new state of the line
+abbrev pub mode_filled : Option (LineName × Duty) → Option Mode
+mode_filled None = None
+mode_filled (Some next) = mode_in_state next.0
 
-abbrev pub claimed_filled : Kind → Behind → ℕ → List ℕ → List ℕ
-claimed_filled Read behind line lines = lines
-claimed_filled Write Nobody line lines = lines
-claimed_filled Write Reads line lines = lines
-claimed_filled Write WriteBehind line lines = append_once line lines
-
--- the line comes into the cache as it is once the access is done
-abbrev pub with_filled : Want → List ℕ → Behind → State → State
-with_filled want words behind v = record v {
-  cache = record v.cache { lines = lines_filled v.cache.shape want.kind behind want.line words v.cache.lines };
-  pending = record v.pending { write_backs = backs_filled want.kind behind want.line v.pending.write_backs };
-  claimed = claimed_filled want.kind behind want.line v.claimed;
-}
+-- the state of the line changes, and it comes into the cache as it is once the access is done
+abbrev pub with_filled : Want → List ℕ → State → State
+with_filled want words v =
+    let u : State = changed OwnFill want.line v in
+    with_lines (lines_taken (mode_filled (next_for OwnFill want.line v)) u.cache.shape want.line words u.cache.lines) u
 
 abbrev pub row_for : Want → ℕ → State → Row
 row_for want post v = record { core = v.number; line = want.line; kind = want.kind; issue = want.issue; post = post; fill = v.slot }
@@ -181,21 +167,21 @@ with_row row v = record v {
 }
 
 -- by a shape
-abbrev pub filled_on : Geometry → Want → List ℕ → ℕ → Behind → State → State
-filled_on shape want words post behind v =
-    with_row (row_for want post v) (with_filled want (words_with shape want.access words) behind (retired_on want.access (met_among shape want.access words) v))
+abbrev pub filled_on : Geometry → Want → List ℕ → ℕ → State → State
+filled_on shape want words post v =
+    with_row (row_for want post v) (with_filled want (words_with shape want.access words) (retired_on want.access (met_among shape want.access words) v))
 
 -- a request was done: a write-back is next
 abbrev pub turned : State → State
 turned v = record v { pending = record v.pending { turn = WriteBackTurn } }
 
-abbrev pub served : Want → List ℕ → ℕ → Behind → State → State
-served want words post behind v = turned (filled_on v.shape want words post behind v)
+abbrev pub served : Want → List ℕ → ℕ → State → State
+served want words post v = turned (filled_on v.shape want words post v)
 
 -- ---- a request is posted
 
-abbrev pub asked : State → State
-asked v = turned (with_want (option_map (post_at v.slot) v.pending.want) v)
+abbrev pub asked : Want → State → State
+asked want v = turned (with_want (option_map (post_at v.slot) v.pending.want) (changed (own_event want.kind) want.line v))
 
 abbrev pub name_for : Want → State → Name
 name_for want v = name_of want.kind (mode_of want.line (held_of v.cache.lines))
@@ -205,39 +191,37 @@ abbrev pub fills_at_once : Want → SharedValue → State → Bool
 fills_at_once want m v = at_once v.number want.line (name_for want v) m
 
 abbrev pub posted_state : Want → SharedValue → State → State
-posted_state want m v = if fills_at_once want m v then served want (line_in m want.line) v.slot Nobody (asked v) else asked v
+posted_state want m v = if fills_at_once want m v then served want (line_in m want.line) v.slot (asked want v) else asked want v
 
 abbrev pub posted_action : Want → SharedValue → State → Action
 posted_action want m v = if fills_at_once want m v then PostFill (name_for want v) want.line else Post (name_for want v) want.line
 
 -- ---- a write-back
 
--- a line that is to be written back stays shared where no write is queued for it and it isn't the victim
+-- a line that is written back stays shared by its state
 abbrev pub keeps : ℕ → State → Bool
-keeps line v = not (has_line line v.claimed) && not (has_victim_for line v.pending.want)
+keeps line v = stays_in (state_name line v)
 
--- the first line is written back
+abbrev pub lines_kept : Bool → ℕ → List CachedLine → List CachedLine
+lines_kept kept line lines = if kept then with_line_mode line Shared lines else lines
+
+-- the first line doesn't wait any more
+abbrev pub popped : List ℕ → State → State
+popped lines v = record v { pending = record v.pending { write_backs = lines } }
+
+-- it is written back: its state changes, and a kept line is shared from now on
 abbrev pub backed : ℕ → List ℕ → State → State
-backed line lines v = record v {
-  cache = record v.cache { lines = if keeps line v then with_line_mode line Shared v.cache.lines else others line v.cache.lines };
-  pending = record v.pending { want = option_map (clear_victim line) v.pending.want; write_backs = lines; turn = RequestTurn };
-  claimed = without_line line v.claimed;
-}
+backed line lines v =
+    let u : State = changed OwnBack line (popped lines v) in
+    record u {
+      cache = record u.cache { lines = lines_kept (keeps line v) line u.cache.lines };
+      pending = record u.pending { want = option_map (clear_victim line) v.pending.want; turn = RequestTurn };
+    }
 
 -- ---- another core's action is snooped
 
--- the line is to be written back
-abbrev pub with_demanded : ℕ → State → State
-with_demanded line v = record v { pending = record v.pending { write_backs = append_once line v.pending.write_backs } }
-
--- a write invalidates a shared copy, and an owner has the line to write back
-abbrev pub snooped_in : Kind → ℕ → Option Mode → State → State
-snooped_in kind line None v = v
-snooped_in kind line (Some Shared) v = if is_write kind then with_lines (others line v.cache.lines) v else v
-snooped_in kind line (Some Modified) v = record (with_demanded line v) { claimed = if is_write kind then append_once line v.claimed else v.claimed }
-
 abbrev pub snooped_request : Kind → ℕ → State → State
-snooped_request kind line v = snooped_in kind line (mode_of line (held_of v.cache.lines)) v
+snooped_request kind line v = changed (other_event kind) line v
 
 abbrev pub snooped : Action → State → State
 snooped Idle v = v

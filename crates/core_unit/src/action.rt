@@ -10,16 +10,31 @@ ghost use Rattle.pmsi_model.specs.Job.{JobValue};
 ghost use Rattle.pmsi_model.specs.Parts.{IsBusPart};
 ghost use Rattle.pmsi_model.specs.Shared.{IsOwnSlot, is_ready};
 ghost use Rattle.pend_buffers.specs.Pending.{choice_of};
+ghost use Rattle.core_unit.specs.Changes.{mode_in_state};
 ghost use Rattle.core_unit.specs.State.{filled_on, keeps, met_among, name_for, retired_on, with_filled, with_want, words_with};
 ghost use Rattle.core_unit.specs.Stands.{CanServe, CanTake, HasTouchRoom};
 ghost use Rattle.core_unit.specs.Parts.{CanAct, IsPartAfter};
 ghost use Rattle.core_unit.specs.Acts.{CanBack, CanFillFor, CanPostFor, CanRequest, IsActed, IsBacked, IsFilled, IsPosted, IsRequested};
 
+use crate::change::own_event;
 use crate::state::State;
+use cache_ctrl::Event;
 use pend_buffers::Choice;
 use pmsi_model::{
-    Access, Action, Behind, BusPort, Kind, LineWords, Mode, Name, Posted, Row, Turn, Want,
+    Access, Action, BusPort, Kind, LineWords, Mode, Name, Posted, Row, State as LineName, Turn,
+    Want,
 };
+
+/// The mode in which a line comes into the cache, by its state once its request is served.
+fn mode_in_state(state: LineName) -> Option<Mode>
+    ensures { result ≡ mode_in_state state }
+{
+    match state {
+        LineName::S => Some(Mode::Shared),
+        LineName::M | LineName::MSWB | LineName::MIWB => Some(Mode::Modified),
+        _ => None,
+    }
+}
 
 impl State {
     /// Does the missed access on the words of its line, and retires its instruction.
@@ -36,37 +51,24 @@ impl State {
         words[place] = self.retire(access, words[place]);
     }
 
-    /// The line comes into the cache: a write has it modified, and has to write it back where requests are queued; a read
-    /// has it shared, and no copy where a write is queued.
-    fn fill_line(&mut self, want: &Want, words: &[u32], behind: Behind)
+    /// The state of the line changes, and the line comes into the cache, unless a write is queued behind a read.
+    fn fill_line(&mut self, want: &Want, words: &[u32])
         requires { CanTake want.now words.now self.old }
-        ensures { self.new ≡ with_filled want.now words.now behind self.old }
+        ensures { self.new ≡ with_filled want.now words.now self.old }
     {
-        match (want.kind, behind) {
-            (Kind::Read, Behind::Write) => {}
-            (Kind::Read, Behind::Nobody | Behind::Reads) => self
-                .cache
-                .put(want.line, Mode::Shared, words),
-            (Kind::Write, Behind::Nobody) => self.cache.put(want.line, Mode::Modified, words),
-            (Kind::Write, Behind::Reads) => {
-                self.cache.put(want.line, Mode::Modified, words);
-                self.pending.push_back(want.line);
-            }
-            (Kind::Write, Behind::Write) => {
-                self.cache.put(want.line, Mode::Modified, words);
-                self.pending.push_back(want.line);
-                self.claimed.insert(want.line);
-            }
+        let state = self.change(Event::OwnFill, want.line);
+        if let Some(mode) = mode_in_state(state) {
+            self.cache.put(want.line, mode, words);
         }
     }
 
     /// Ends the want, which was posted in the slot `post`, with the words of its line.
-    fn serve(&mut self, want: &Want, words: &mut LineWords, post: u32, behind: Behind)
+    fn serve(&mut self, want: &Want, words: &mut LineWords, post: u32)
         requires { CanServe want.now words.old.items self.old }
-        ensures { self.new ≡ filled_on self.old.shape want.now words.old.items post behind self.old }
+        ensures { self.new ≡ filled_on self.old.shape want.now words.old.items post self.old }
     {
         self.finish_access(want.access, words);
-        self.fill_line(want, words.as_slice(), behind);
+        self.fill_line(want, words.as_slice());
         self.rows.push(Row {
             core: self.number,
             line: want.line,
@@ -98,12 +100,13 @@ impl State {
     {
         let name = self.name_for(want);
         let mut words = LineWords::new();
+        self.change(own_event(want.kind), want.line);
         self.pending.posted(self.slot);
         self.pending.acted(Turn::WriteBack);
         match bus.post(self.number, want.line, name, &mut words) {
             Posted::Queued => Action::Post(name, want.line),
             Posted::Filled => {
-                self.serve(want, &mut words, self.slot, Behind::Nobody);
+                self.serve(want, &mut words, self.slot);
                 Action::PostFill(name, want.line)
             }
         }
@@ -116,8 +119,8 @@ impl State {
         ensures { IsFilled want.now post self.old (P.side bus.old) result self.new (P.side bus.new) }
     {
         let mut words = LineWords::new();
-        let behind = bus.fill(self.number, want.line, &mut words);
-        self.serve(want, &mut words, post, behind);
+        bus.fill(self.number, want.line, &mut words);
+        self.serve(want, &mut words, post);
         self.pending.acted(Turn::WriteBack);
         Action::Fill(want.line)
     }
@@ -129,11 +132,11 @@ impl State {
         self.pending.want()?.victim
     }
 
-    /// Whether a line that is written back stays shared: no write is queued for it, and it isn't the victim.
+    /// Whether a line that is written back stays shared.
     fn keeps(&self, line: u32) -> bool
         ensures { result ≡ keeps line self.now }
     {
-        !self.claimed.contains(line) && self.victim() != Some(line)
+        self.state_name(line) == LineName::MSWB
     }
 
     /// The line is no victim any more.
@@ -149,7 +152,7 @@ impl State {
     fn write_back<P: BusPort>(&mut self, bus: &mut P) -> Action
         requires some { 0 < length self.old.pending.write_backs }
         requires slot { IsOwnSlot self.old.number (P.side bus.old) }
-        requires first { (line : ℕ) (lines : List ℕ) → self.old.pending.write_backs ≡ line ∷ lines → CanBack line self.old (P.side bus.old).memory }
+        requires first { (line : ℕ) (lines : List ℕ) → self.old.pending.write_backs ≡ line ∷ lines → CanBack line lines self.old (P.side bus.old).memory }
         ensures { (line : ℕ) (lines : List ℕ) → self.old.pending.write_backs ≡ line ∷ lines →
             IsBacked line lines self.old (P.side bus.old) result self.new (P.side bus.new) }
     {
@@ -158,12 +161,10 @@ impl State {
         let mut words = LineWords::new();
         self.cache.copy_line(line, &mut words);
         bus.back(self.number, line, words.as_slice(), keep);
+        self.change(Event::OwnBack, line);
         if keep {
             self.cache.set_mode(line, Mode::Shared);
-        } else {
-            self.cache.drop_line(line);
         }
-        self.claimed.remove(line);
         self.end_victim(line);
         self.pending.acted(Turn::Request);
         Action::Back(line, keep)

@@ -2,9 +2,8 @@
 #![tactic(auto)]
 
 mod action;
-mod demand;
+mod change;
 pub mod laws;
-mod lines;
 mod opening;
 mod phase;
 mod program;

@@ -1,23 +1,24 @@
 //! A core's phase of a slot: at most a quantum of instructions.
-ghost use Rattle.std.specs.Prelude.{◌≡◌, ℕ, ◌+◌, ◌%◌, ◌^◌, ◌<◌, length, true, IfSome, Some, None, is_some};
+ghost use Rattle.std.specs.Prelude.{◌≡◌, ℕ, ◌+◌, ◌%◌, ◌^◌, ◌<◌, true, IfSome, Some, None, is_some};
 ghost use Rattle.pmsi_model.specs.Access.{kind_of, width_of};
 ghost use Rattle.pmsi_model.specs.Effect.{Memory as MemoryEffect};
 ghost use Rattle.pmsi_model.specs.Geometry.{IsGeometry, line_of};
 ghost use Rattle.pmsi_model.specs.Instruction.{instr_of};
 ghost use Rattle.pmsi_model.specs.Job.{JobValue};
-ghost use Rattle.pmsi_model.specs.Machine.{is_modified, mode_of};
+ghost use Rattle.pmsi_model.specs.Machine.{mode_of};
 ghost use Rattle.pmsi_model.specs.Phase.{can_run, effect_of_word, permits, victim_of};
-ghost use Rattle.cache_array.specs.Cache.{Holds, IsCache, held_of, others, place_of};
+ghost use Rattle.cache_array.specs.Cache.{IsCache, held_of, place_of};
 ghost use Rattle.rv_exec.specs.Effects.{IsAccessTo};
 ghost use Rattle.core_unit.specs.State.{KeepsWays, core_of, gone_for, lines_left, performed, wanting, with_lines, with_room};
-ghost use Rattle.core_unit.specs.Stands.{CanExecute, HasTouchRoom, SameRun, StandsAfter, StandsNext, TouchesAfter, TouchesNext};
+ghost use Rattle.core_unit.specs.Stands.{CanExecute, CanMakeRoom, HasTouchRoom, SameRun, StandsAfter, StandsNext, TouchesAfter, TouchesNext};
 ghost use Rattle.core_unit.specs.Parts.{CanPhase, IsPart, IsPartAfter};
 ghost use Rattle.core_unit.specs.Phases.{IsInPhase};
 
 use crate::program::Fetched;
 use crate::state::State;
 use cache_array::line_of;
-use pmsi_model::{Access, AccessOp, Halt, Kind, Mode, Status, Want};
+use cache_ctrl::Event;
+use pmsi_model::{Access, AccessOp, Halt, Kind, Mode, State as LineName, Status, Want};
 use rv_exec::{Effect, exec};
 
 impl State {
@@ -62,17 +63,6 @@ impl State {
         self.leave(op, place, aligned, left);
     }
 
-    /// Whether the core holds a line modified.
-    fn owns(&self, line: u32) -> bool
-        ensures mode { result ≡ is_modified (mode_of line (held_of self.now.cache.lines)) }
-        ensures cache { IsCache self.now.cache }
-    {
-        match self.cache.find(line) {
-            Some(Mode::Modified) => true,
-            Some(Mode::Shared) | None => false,
-        }
-    }
-
     /// The place of a line for which an access of this kind has permission; none where it has to wait.
     fn permitted_place(&self, kind: Kind, line: u32) -> Option<usize>
         ensures permits { is_some result ≡ permits kind (mode_of line (held_of self.now.cache.lines)) }
@@ -86,34 +76,23 @@ impl State {
         }
     }
 
-    /// A shared line leaves the cache.
-    fn drop_shared(&mut self, line: u32)
-        requires { Holds line self.old.cache.lines }
-        ensures { self.new ≡ with_lines (others line self.old.cache.lines) self.old }
-    {
-        self.cache.drop_line(line);
-    }
-
     /// Makes room where the set is full: a shared line is dropped at once, a modified one is to be written back first, and
     /// is given.
     fn evict(&mut self, line: u32) -> Option<u32>
-        requires { length self.old.pending.write_backs < self.old.pending.cores }
+        requires { CanMakeRoom line self.old }
         ensures victim { result ≡ victim_of (gone_for line self.old) }
         ensures after { self.new ≡ with_room line self.old }
     {
         let victim = self.cache.victim(line)?;
-        if self.owns(victim) {
-            self.demand(victim);
-            Some(victim)
-        } else {
-            self.drop_shared(victim);
-            None
+        match self.change(Event::Choose, victim) {
+            LineName::I => None,
+            _ => Some(victim),
         }
     }
 
     /// The core gets a want.
     fn miss(&mut self, access: Access, line: u32)
-        requires backs { length self.old.pending.write_backs < self.old.pending.cores }
+        requires room { CanMakeRoom line self.old }
         requires none { self.old.pending.want ≡ None }
         ensures { self.new ≡ wanting access line self.old }
     {

@@ -3,24 +3,17 @@ ghost use Rattle.std.specs.Prelude.{◌≡◌, ◌+◌, ◌^◌, ◌<◌};
 ghost use Rattle.core_unit.specs.State.{snooped_request, snooped, stepped};
 ghost use Rattle.core_unit.specs.Snoops.{CanSnoopRequest, CanSnoopAction};
 
+use crate::change::other_event;
 use crate::state::State;
-use pmsi_model::{Action, Kind, Mode};
+use pmsi_model::{Action, Kind};
 
 impl State {
-    /// Snoops another core's request: a write invalidates a shared copy, and an owner has the line to write back.
+    /// Snoops another core's request.
     fn snoop_request(&mut self, kind: Kind, line: u32)
-        requires { CanSnoopRequest line self.old }
+        requires { CanSnoopRequest kind line self.old }
         ensures { self.new ≡ snooped_request kind line self.old }
     {
-        match (self.cache.find(line), kind) {
-            (None, _) | (Some(Mode::Shared), Kind::Read) => {}
-            (Some(Mode::Shared), Kind::Write) => self.cache.drop_line(line),
-            (Some(Mode::Modified), Kind::Read) => self.demand(line),
-            (Some(Mode::Modified), Kind::Write) => {
-                self.demand(line);
-                self.claimed.insert(line);
-            }
-        }
+        self.change(other_event(kind), line);
     }
 
     /// Snoops another core's action.

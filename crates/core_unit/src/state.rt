@@ -1,10 +1,10 @@
 //! What a core has: registers, cache, and its side of the bus.
 ghost use Rattle.std.specs.Prelude.{◌≡◌, IfOk};
 
-use crate::lines::LineSet;
 use crate::program::Program;
 use crate::reserved::ReservedList;
 use cache_array::CacheArray;
+use cache_ctrl::LineStates;
 use pend_buffers::Pending;
 use pmsi_model::{Geometry, NoMemory, Row, SlotTable, Status, Touch};
 use rv_exec::Regs;
@@ -26,8 +26,8 @@ pub struct State {
     pub retired: u64,
     pub cache: CacheArray,
     pub pending: Pending,
-    /// The lines to write back for which another core's write is queued.
-    pub claimed: LineSet,
+    /// The states of the lines that have something on their way.
+    pub states: LineStates,
     /// The requests that were served, in a room for one in each own slot.
     pub rows: ReservedList<Row>,
     /// Whether accesses are kept.
@@ -54,7 +54,7 @@ impl State {
             retired: self.retired,
             cache: self.cache.copy(alloc)?,
             pending: self.pending.copy(),
-            claimed: self.claimed.copy(),
+            states: self.states.copy(),
             rows: self.rows.copy(alloc)?,
             keeps: self.keeps,
             touches: self.touches.copy(alloc)?,

@@ -3,16 +3,20 @@ ghost use Rattle.std.specs.Prelude.{◌≡◌, ℕ, ◌<◌, false, IfOk};
 ghost use Rattle.pmsi_model.specs.Effect.{reg_of};
 ghost use Rattle.pmsi_model.specs.Geometry.{CanKeep, IsGeometry};
 ghost use Rattle.pmsi_model.specs.Job.{JobValue};
+ghost use Rattle.pmsi_model.specs.Named.{state_of};
 ghost use Rattle.pmsi_model.specs.Parts.{IsBusPart};
+ghost use Rattle.pmsi_model.specs.Phase.{phase};
+ghost use Rattle.pmsi_model.specs.Run.{machine_at};
 
-use crate::lines::LineSet;
 use crate::program::Program;
 use crate::reserved::ReservedList;
 use crate::state::State;
 use cache_array::CacheArray;
+use cache_ctrl::LineStates;
 use pend_buffers::Pending;
 use pmsi_model::{
-    Action, BusPort, Geometry, Job, Keep, NoMemory, Reg, Row, SlotTable, Status, Touch,
+    Action, BusPort, Geometry, Job, Keep, NoMemory, Reg, Row, SlotTable, State as LineName, Status,
+    Touch,
 };
 use rv_exec::Regs;
 use slot_plan::count_own;
@@ -71,7 +75,7 @@ impl Core {
                 retired: 0,
                 cache: CacheArray::new(alloc, shape)?,
                 pending: Pending::new(shape.cores),
-                claimed: LineSet::new(),
+                states: LineStates::new(),
                 rows: ReservedList::with_room(alloc, rows)?,
                 keeps: keep.touches,
                 touches: ReservedList::with_room(alloc, touches)?,
@@ -171,6 +175,14 @@ impl Core {
         ensures { result.now ≡ self.now.cache }
     {
         &self.state.cache
+    }
+
+    /// The state of a line, which is the machine's.
+    pub fn state_name(&self, line: u32) -> LineName
+        ensures at { (job : JobValue) (slot c : ℕ) → IsPart job slot c self.now → result ≡ state_of (machine_at job slot) c line }
+        ensures after { (job : JobValue) (slot c : ℕ) → IsPartAfter job slot c self.now → result ≡ state_of (phase job c (machine_at job slot)) c line }
+    {
+        self.state.state_name(line)
     }
 
     /// The requests of the core that were served, by the slot of their fill.

@@ -1,5 +1,5 @@
 -- There is room for the next item.
-use Rattle.std.proofs.Common.{◌≡◌, ◌≤◌, length, ap, sym, arith}
+use Rattle.std.proofs.Common.{◌≡◌, length, ap, sym, arith}
 use Rattle.std.specs.Vec.{vec_capacity}
 use Rattle.core_unit.proofs.reserved.ReservedList.copy.Goals as goal
 

@@ -1,5 +1,5 @@
-use Rattle.std.proofs.Common.{◌∙◌, sym}
-use Rattle.core_unit.proofs.Steps.{takes_word, runs_past}
+use Rattle.std.proofs.Common.{◌∙◌, refl, sym}
+use Rattle.core_unit.proofs.Steps.{runs_past, same_run, takes_word}
 use Rattle.core_unit.proofs.Touches.{touches_past, touches_word}
 use Rattle.core_unit.proofs.state.State.instruction.Goals as goal
 
@@ -14,3 +14,6 @@ returns-in-None-clause-stands c = λ job c' memory s. runs_past job c' memory c.
 
 pub returns-in-None-clause-touched : goal.returns-in-None-clause-touched
 returns-in-None-clause-touched c = λ job c' memory s. touches_past job c' memory c.args.self.now s c.requires.runs (sym c.fetch.ensures ∙ c.in-None.is)
+
+pub returns-in-None-clause-same : goal.returns-in-None-clause-same
+returns-in-None-clause-same c = same_run c.args.self.now _ refl (λ l. refl)

@@ -22,7 +22,7 @@ pub returns-then-not-instruction-clause-taken : goal.returns-then-not-instructio
 returns-then-not-instruction-clause-taken c = λ job slot k more part.
     stops_early job slot k (c.loop.counter + 1) c.instruction.new.self
     (takes_one job slot k c.loop.counter c.loop.self c.instruction.new.self (c.loop.invariant.0.phase job slot k more part)
-    (subst (λ (g : Geometry). c.loop.counter < g.quantum) part.in_slot.stands.carries.shape c.loop-test.true) c.instruction.ensures.same c.instruction.ensures.stands c.instruction.ensures.touched)
+    (subst (λ (g : Geometry). c.loop.counter < g.quantum) part.in_slot.stands.carries.shape c.loop-test.true) c.loop.invariant.1 c.instruction.ensures.same c.instruction.ensures.stands c.instruction.ensures.touched)
     (sym c.instruction.ensures.goes_on ∙ c.if-not-instruction.true)
 
 pub returns-then-not-instruction-clause-keeps : goal.returns-then-not-instruction-clause-keeps
@@ -32,7 +32,7 @@ pub loop-preserved : goal.loop-preserved
 loop-preserved c = (
   record {
     phase = λ job slot k more part. takes_one job slot k c.loop.counter c.loop.self c.instruction.new.self (c.loop.invariant.0.phase job slot k more part)
-        (subst (λ (g : Geometry). c.loop.counter < g.quantum) part.in_slot.stands.carries.shape c.loop-test.true) c.instruction.ensures.same c.instruction.ensures.stands c.instruction.ensures.touched;
+        (subst (λ (g : Geometry). c.loop.counter < g.quantum) part.in_slot.stands.carries.shape c.loop-test.true) c.loop.invariant.1 c.instruction.ensures.same c.instruction.ensures.stands c.instruction.ensures.touched;
     keeps = c.instruction.ensures.same.keeps ∙ c.loop.invariant.0.keeps;
   },
   sym c.instruction.ensures.goes_on ∙ c.if-not-instruction.false,
