@@ -88,6 +88,21 @@ fn whole_texts_are_asked_for(rt: HostRuntime) -> Result<(), Fail> {
     Ok(())
 }
 
+/// Each front of the text, from no byte to all but the last, ends too early.
+#[test]
+fn fronts_end_too_early(rt: HostRuntime) -> Result<(), Fail> {
+    let alloc = rt.alloc();
+    let text = TEXT.as_bytes();
+    assert!(rt; text.len() <= 1000);
+    for end in 0..text.len() {
+        let Err(found) = read_trace(alloc, &text[..end]) else {
+            panic!(rt; "a front of {end} bytes is read")
+        };
+        assert_eq!(rt; found, TraceFault::End, "a front of {end} bytes");
+    }
+    Ok(())
+}
+
 #[test]
 fn lines_have_their_forms(rt: HostRuntime) -> Result<(), Fail> {
     let alloc = rt.alloc();
