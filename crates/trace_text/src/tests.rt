@@ -1,4 +1,4 @@
-//! The actions of a reader behind an owner, as text; and texts with each fault.
+//! A trace as text, each front of it, and texts with each fault.
 ghost use Rattle.std.specs.Prelude.{◌≤◌, length};
 ghost use Rattle.pmsi_model.specs.declared.limits.TheConstants.{MAX_FILE_BYTES};
 ghost use Rattle.trace_text.specs.Text.{IsTrace};
@@ -9,6 +9,7 @@ use std::alloc::Global;
 use std::process::Abort;
 use std::test::Fail;
 
+/// The trace of `reader_behind_an_owner`, a job of two cores in the examples of pmsi_model.
 const TEXT: &str = "\
 pmsi trace 1
 cores 2
