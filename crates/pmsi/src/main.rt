@@ -6,6 +6,7 @@ use pmsi_outside::{DiskFiles, OpenGate, StdSink};
 use pmsi_tool::{ToolStatus, tell_no_memory, tool, tool_threads};
 use std::alloc::AllocError;
 use std::env;
+use std::io::ErrorKind;
 use std::process::ExitCode;
 use std::sync::Wait;
 use std::thread::Threads;
@@ -13,8 +14,10 @@ use std::thread::Threads;
 /// The words after the program's name: none where one isn't UTF-8.
 fn words(rt: &HostRuntime) -> Result<Vec<String>, AllocError> {
     let mut words = Vec::new(rt.alloc());
-    let Ok(given) = env::args(rt) else {
-        return Ok(words);
+    let given = match env::args(rt) {
+        Ok(given) => given,
+        Err(fault) if fault.kind() == ErrorKind::OutOfMemory => return Err(AllocError),
+        Err(_) => return Ok(words),
     };
     for word in given.skip(1) {
         words.push(word)?;

@@ -1,4 +1,4 @@
-//! The actions of a reader behind an owner, as text; and texts with each fault.
+//! A trace as text, each front of it, and texts with each fault.
 ghost use Rattle.std.specs.Prelude.{◌≤◌, length};
 ghost use Rattle.pmsi_model.specs.declared.limits.TheConstants.{MAX_FILE_BYTES};
 ghost use Rattle.trace_text.specs.Text.{IsTrace};
@@ -9,6 +9,7 @@ use std::alloc::Global;
 use std::process::Abort;
 use std::test::Fail;
 
+/// The trace of `reader_behind_an_owner`, a job of two cores in the examples of pmsi_model.
 const TEXT: &str = "\
 pmsi trace 1
 cores 2
@@ -85,6 +86,21 @@ fn whole_texts_are_asked_for(rt: HostRuntime) -> Result<(), Fail> {
     has(&rt, alloc, "pmsi trace 1\ncores 02\n", TraceFault::Line(2));
     has(&rt, alloc, "pmsi trace 1\ncores 2 \n", TraceFault::Line(2));
     has(&rt, alloc, "pmsi trace 1\ncores 2", TraceFault::End);
+    Ok(())
+}
+
+/// Each front of the text, from no byte to all but the last, ends too early.
+#[test]
+fn fronts_end_too_early(rt: HostRuntime) -> Result<(), Fail> {
+    let alloc = rt.alloc();
+    let text = TEXT.as_bytes();
+    assert!(rt; text.len() <= 1000);
+    for end in 0..text.len() {
+        let Err(found) = read_trace(alloc, &text[..end]) else {
+            panic!(rt; "a front of {end} bytes is read")
+        };
+        assert_eq!(rt; found, TraceFault::End, "a front of {end} bytes");
+    }
     Ok(())
 }
 
