@@ -1,11 +1,11 @@
 -- A try to take the lock keeps the rule, and tells what it is to tell.
-use Rattle.std.proofs.Common.{◌≡◌, ◌≢◌, ◌⊎◌, ℕ, ◌+◌, ◌*◌, ◌/◌, ◌%◌, ◌^◌, ◌<◌, ◌≤◌, List, [], ◌∷◌, Bool, true, false, length, set, slice_index, bit_or, Some, None, refl, sym, ap, ◌∙◌, subst, inl, inr, ⊎_elim, arith, length-set, get_or-set_same}
+use Rattle.std.proofs.Common.{◌≡◌, ℕ, ◌+◌, ◌*◌, ◌/◌, ◌%◌, ◌^◌, ◌≤◌, List, [], ◌∷◌, Bool, true, false, length, set, slice_index, bit_or, Some, None, refl, sym, ap, ◌∙◌, subst, inl, inr, ⊎_elim, arith, length-set, get_or-set_same}
 use Rattle.std.proofs.lemmas.Nat.{or_block}
 use Rattle.std.specs.Int.Bits.{or_shifted, or_zero_r}
 use mathlib.Core.Option.{some, none}
 use lib.ListN.{get_elem?}
 use lib.Seq.{set-get_or}
-use Rattle.atomic_table.specs.Table.{State, Me, Step, step, keeps, takes, stepped, Allows, rest, Act, Valid, carried_after}
+use Rattle.atomic_table.specs.Table.{Step, step, keeps, takes, stepped, Allows, rest, Act, Valid, carried_after}
 use Rattle.atomic_table.proofs.Lists.{set_here, set_else}
 use Rattle.pmsi_model.specs.declared.limits.TheConstants.{MAX_SLOTS}
 use Rattle.pmsi_model.specs.Job.{JobValue}
