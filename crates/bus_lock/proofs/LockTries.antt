@@ -1,11 +1,11 @@
 -- A try to take the lock keeps the rule, and tells what it is to tell.
-use Rattle.std.proofs.Common.{◌≡◌, ◌≢◌, ◌⊎◌, ℕ, ◌+◌, ◌*◌, ◌/◌, ◌%◌, ◌^◌, ◌<◌, ◌≤◌, List, [], ◌∷◌, Bool, true, false, length, set, slice_index, bit_or, Some, None, refl, sym, ap, ◌∙◌, subst, inl, inr, ⊎_elim, arith, length-set, get_or-set_same}
+use Rattle.std.proofs.Common.{◌≡◌, ℕ, ◌+◌, ◌*◌, ◌%◌, ◌^◌, ◌≤◌, List, [], ◌∷◌, Bool, true, false, length, set, slice_index, bit_or, Some, None, refl, sym, ap, ◌∙◌, subst, inl, inr, ⊎_elim, arith, length-set, get_or-set_same}
 use Rattle.std.proofs.lemmas.Nat.{or_block}
 use Rattle.std.specs.Int.Bits.{or_shifted, or_zero_r}
 use mathlib.Core.Option.{some, none}
 use lib.ListN.{get_elem?}
 use lib.Seq.{set-get_or}
-use Rattle.atomic_table.specs.Table.{State, Me, Step, step, keeps, takes, stepped, Allows, rest, Act, Valid, carried_after}
+use Rattle.atomic_table.specs.Table.{Step, step, keeps, takes, stepped, Allows, rest, Act, Valid, carried_after}
 use Rattle.atomic_table.proofs.Lists.{set_here, set_else}
 use Rattle.pmsi_model.specs.declared.limits.TheConstants.{MAX_SLOTS}
 use Rattle.pmsi_model.specs.Job.{JobValue}
@@ -145,14 +145,6 @@ Free m n m' = (turn : ℕ) × (b : BusSide) × HasTaken m n m' turn b
 
 pub free_of : (st : Step Slot) (m m' : Hand) (n : ℕ) → tried st m n m' → (n % 2 ≡ 1 → ⊥) → Free m n m'
 free_of st m m' n t even = ⊎_elim (λ h. let e : n ≡ 2 * t.0 + 1 = h.0 in absurd (even (omega arith))) (λ h. (t.0, h.0, h.1)) t.2
-
--- an odd word was found with the lock held
-pub missed_it : (st : Step Slot) (m m' : Hand) (n turn : ℕ) → tried st m n m' → n % 2 ≡ 1 → turn ≡ n / 2 → m.1 ≡ [] → m' ≡ (missed m.0 (2 * turn + 1), [])
-missed_it st m m' n turn t odd half empty = ⊎_elim
-    (λ h. let e : n ≡ 2 * t.0 + 1 = h.0 in let twice : n ≡ 2 * turn + 1 = omega arith in
-    subst (λ (x : ℕ). m' ≡ (missed m.0 x, [])) twice (subst (λ (l : List (ℕ × Slot)). m' ≡ (missed m.0 n, l)) empty h.1))
-    (λ h. let e : n ≡ 2 * t.0 = h.1.word in absurd (omega arith))
-    t.2
 
 pub slot_of : (m m' : Hand) (n : ℕ) → Free m n m' → (x : Slot) × (m'.1 ≡ (0, x) ∷ rest m'.1)
 slot_of m m' n f = (Some f.1, subst (λ (h : Hand). h.1 ≡ (0, Some f.1) ∷ rest h.1) (sym f.2.hand) refl)

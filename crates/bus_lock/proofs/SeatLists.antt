@@ -1,5 +1,5 @@
 -- Making a seat and joining one keep the rule; so does the table at the start, and at the end the bus lies in the slot.
-use Rattle.std.proofs.Common.{◌≡◌, ◌≢◌, ◌⊎◌, ℕ, zero, suc, ◌+◌, ◌<◌, ◌≤◌, List, [], ◌∷◌, ◌++◌, Bool, true, false, length, set, Some, refl, sym, ap, ◌∙◌, subst, ⊎_elim, arith}
+use Rattle.std.proofs.Common.{◌≡◌, ◌≢◌, ℕ, zero, suc, ◌+◌, ◌<◌, ◌≤◌, List, [], ◌∷◌, ◌++◌, Bool, true, false, length, set, Some, refl, sym, ap, ◌∙◌, subst, ⊎_elim, arith}
 use mathlib.Core.Option.{some, some-injective, some-ne-none}
 use mathlib.Core.Logic.{dite}
 use native.Mathlib.Decide.{ℕ_discrete}
@@ -11,7 +11,7 @@ use Rattle.pmsi_model.specs.Shared.{BusSide}
 use Rattle.pmsi_model.proofs.Spreads.{start_fits}
 use Rattle.bus_lock.specs.declared.about.About.{About}
 use Rattle.bus_lock.specs.declared.view.View.{View}
-use Rattle.bus_lock.specs.Rule.{Slot, Table, IsBusAt, Knows, Absent, Kept, holds, fresh_view, first_of, one_more, new_seat, with_joined, spent_view, Opening, Ending}
+use Rattle.bus_lock.specs.Rule.{Slot, Table, IsBusAt, Knows, Absent, Kept, holds, fresh_view, one_more, new_seat, with_joined, spent_view, Opening, Ending}
 use Rattle.bus_lock.proofs.Views.{views_stay, was, own_stays, apart, at_end, AreApart}
 use Rattle.bus_lock.proofs.LockReleases.{here, there}
 

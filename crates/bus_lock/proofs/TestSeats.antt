@@ -1,37 +1,50 @@
--- The seats of the two cores of a test.
-use Rattle.std.proofs.Common.{◌≡◌, ◌⊎◌, ℕ, zero, suc, ◌+◌, ◌<◌, List, [], ◌∷◌, Bool, true, get_or, length, sym, ap, ◌∙◌, subst, refl, arith, ⊎_elim}
-use Rattle.pmsi_model.specs.Job.{JobValue, IsJob}
-use Rattle.pmsi_model.specs.declared.job.Geometry.{Geometry}
+-- The cores of a test and their seats: before the first slot, at a meeting, and after the last slot.
+use Rattle.std.proofs.Common.{◌≡◌, ◌≢◌, ℕ, ◌<◌, List, [], ◌∷◌, true, length, get_or, set, sym, ◌∙◌, subst, refl, arith, inl, ⊎_elim, length-set, get_or-set_same, get_or-set_other}
+use mathlib.Core.Logic.{dite}
+use native.Mathlib.Decide.{ℕ_discrete}
+use Rattle.pmsi_model.specs.declared.Keep.{Keep}
+use Rattle.pmsi_model.specs.Job.{JobValue}
 use Rattle.core_unit.specs.declared.state.State.{State}
-use Rattle.core_unit.specs.Parts.{IsPart, IsPartAfter}
-use Rattle.bus_lock.specs.Answers.{IsIn, SameSeat, StandsAt}
-use Rattle.bus_lock.specs.Seats.{view_of, IsOwn, IsSeat, AreSeats}
+use Rattle.core_unit.specs.Opened.{AreOpened}
 use Rattle.bus_lock.specs.declared.seat.BusSeat.{BusSeat}
 use Rattle.bus_lock.specs.declared.seat.SharedBus.{SharedBus}
+use Rattle.bus_lock.specs.Answers.{IsIn, SameSeat, StandsAt}
+use Rattle.bus_lock.specs.Seats.{view_of, IsOwn, IsSeat, AreSeats}
+use Rattle.bus_lock.specs.TestRuns.{IsHere, AreHere}
 
-pub slot_is : (job : JobValue) (count c : ℕ) (core : State) → IsIn job count c core → core.slot ≡ count
-slot_is job count c core at = ⊎_elim (λ p. p.in_slot.now) (λ p. p.in_slot.now) at
+-- one element of a list is put in place of another
+module _ (A : Type 0) (xs : List A) (c : ℕ) (new : A) (below : c < length xs) where
+  after_set : (P : ℕ → A → Type 0) (d : ℕ) (other : A) → P c new → (d ≢ c → P d (get_or xs d other)) → P d (get_or (set xs c new) d other)
+  after_set P d other own others = dite (ℕ_discrete d c)
+      (λ same. subst (λ n. P n (get_or (set xs c new) n other)) (sym same) (subst (P c) (sym (get_or-set_same xs c new other below)) own))
+      (λ differs. subst (P d) (sym (get_or-set_other xs c d new other differs)) (others differs))
 
-pub shape_is : (job : JobValue) (count c : ℕ) (core : State) → IsIn job count c core → core.shape ≡ job.shape
-shape_is job count c core at = ⊎_elim (λ p. p.in_slot.stands.carries.shape) (λ p. p.in_slot.stands.carries.shape) at
+module _ (bus : SharedBus) (job : JobValue) where
+  -- ---- before the first slot
 
-pub slots_left : (job : JobValue) (count c : ℕ) (core : State) → IsIn job count c core → core.slot < core.shape.slots → count < job.shape.slots
-slots_left job count c core at less =
-    let s = slot_is job count c core at in
-    let n : core.shape.slots ≡ job.shape.slots = ap (λ (g : Geometry). g.slots) (shape_is job count c core at) in
-    omega arith
+  module _ (keep : Keep) (seats : List BusSeat) (cores : List State) (are : AreSeats bus job true 0 seats) (opened : AreOpened job keep cores) where
+    seat_at : (c : ℕ) (x : BusSeat) → c < job.shape.cores → IsSeat bus job true 0 job.shape.cores c (get_or seats c x)
+    seat_at c x below = are.seated.order c x (let n = are.all in omega arith)
 
-module _ (bus : SharedBus) (job : JobValue) (made c : ℕ) where
-  -- a core whose phase is done, at its seat
-  pub can_try : (seat : BusSeat) (core : State) → IsSeat bus job true (view_of seat).count made c seat → IsPartAfter job (view_of seat).count c core →
-      IsPartAfter (view_of seat).job (view_of seat).count (view_of seat).number core
-  can_try seat core s at = subst (λ (j : JobValue). IsPartAfter j (view_of seat).count (view_of seat).number core) (sym s.job_is)
-      (subst (λ n. IsPartAfter job (view_of seat).count n core) (sym s.number) at)
+    pub at_first : AreHere bus job seats cores
+    at_first = record {
+      within = are.within;
+      all_seats = are.all;
+      all_cores = opened.all;
+      seat = λ c x below. let s = seat_at c x below in subst (λ n. IsSeat bus job true n job.shape.cores c (get_or seats c x)) (sym s.count_is) s;
+      none_joined = are.seated.none_joined;
+      stands = λ c x v below.
+          let s = seat_at c x below in
+          let view = view_of (get_or seats c x) in
+          let core = get_or cores c v in
+          subst (λ (j : JobValue). IsIn j view.count view.number core) (sym s.job_is)
+          (subst (λ n. IsIn job n view.number core) (sym s.count_is) (subst (λ n. IsIn job 0 n core) (sym s.number) (inl (opened.part c v below))));
+    }
 
-  -- the seat and the core after a try
-  pub seat_after : (old new : BusSeat) → IsSeat bus job true (view_of old).count made c old → IsOwn bus new → SameSeat (view_of old) (view_of new) →
-      IsSeat bus job true (view_of new).count made c new
-  seat_after old new s own same = record {
+  -- ---- a core met the bus
+
+  seat_after : (c : ℕ) (old new : BusSeat) → IsHere bus job c old → IsOwn bus new → SameSeat (view_of old) (view_of new) → IsHere bus job c new
+  seat_after c old new s own same = record {
     own = own;
     job_is = same.job ∙ s.job_is;
     keeps_is = same.keeps ∙ s.keeps_is;
@@ -40,25 +53,53 @@ module _ (bus : SharedBus) (job : JobValue) (made c : ℕ) where
     made_is = λ z. same.made ∙ s.made_is z;
   }
 
-  pub core_after : (old new : BusSeat) (core : State) → IsSeat bus job true (view_of old).count made c old → SameSeat (view_of old) (view_of new) →
-      StandsAt (view_of new) core → IsIn job (view_of new).count c core
-  core_after old new core s same at = subst (λ n. IsIn job (view_of new).count n core) (same.number ∙ s.number)
-      (subst (λ (j : JobValue). IsIn j (view_of new).count (view_of new).number core) (same.job ∙ s.job_is) at)
+  module _ (seats : List BusSeat) (cores : List State) (here : AreHere bus job seats cores) (c : ℕ) where
+    pub stands_at : (seat : BusSeat) (core : State) → c < length cores → seat ≡ get_or seats c seat → core ≡ get_or cores c core → StandsAt (view_of seat) core
+    stands_at seat core below is_seat is_core = let n = here.all_cores in
+        subst (λ s. StandsAt (view_of s) core) (sym is_seat) (subst (StandsAt (view_of (get_or seats c seat))) (sym is_core) (here.stands c seat core (omega arith)))
 
-  -- a seat at the end
-  pub at_last : (seat : BusSeat) (core : State) → IsSeat bus job true (view_of seat).count made c seat → IsIn job (view_of seat).count c core →
-      core.slot ≡ job.shape.slots → IsSeat bus job true job.shape.slots made c seat
-  at_last seat core s at last = subst (λ n. IsSeat bus job true n made c seat) (sym (slot_is job (view_of seat).count c core at) ∙ last) s
+  module _ (seats : List BusSeat) (cores : List State) (here : AreHere bus job seats cores) (c : ℕ) (old : BusSeat) (below : c < length cores) (was : old ≡ get_or seats c old)
+      (new : BusSeat) (core : State) (own : IsOwn bus new) (same : SameSeat (view_of old) (view_of new)) (stands : StandsAt (view_of new) core) where
+    low : c < job.shape.cores
+    low = let n = here.all_cores in omega arith
 
-module _ (bus : SharedBus) (job : JobValue) (a b : BusSeat) (first : IsSeat bus job true job.shape.slots job.shape.cores 0 a) (second : IsSeat bus job true job.shape.slots job.shape.cores 1 b) where
-  in_order : (c : ℕ) (other : BusSeat) → c < 2 → IsSeat bus job true job.shape.slots job.shape.cores c (get_or (a ∷ b ∷ []) c other)
-  in_order zero other below = first
-  in_order (suc zero) other below = second
-  in_order (suc (suc c)) other below = absurd (omega arith)
+    short : c < length seats
+    short = let n = here.all_cores in let m = here.all_seats in omega arith
 
-  pub both : IsJob job → job.shape.cores ≡ 2 → (view_of a).joined ≡ [] → AreSeats bus job true job.shape.slots (a ∷ b ∷ [])
-  both ok two none = record {
-    within = ok;
-    all = sym two;
-    seated = record { order = in_order; none_joined = λ other. none };
-  }
+    pub at_next : AreHere bus job (set seats c new) (set cores c core)
+    at_next = record {
+      within = here.within;
+      all_seats = length-set seats c new ∙ here.all_seats;
+      all_cores = length-set cores c core ∙ here.all_cores;
+      seat = λ d x within. after_set BusSeat seats c new short (IsHere bus job) d x
+          (seat_after c old new (subst (IsHere bus job c) (sym was) (here.seat c old low)) own same)
+          (λ _. here.seat d x within);
+      none_joined = λ x. after_set BusSeat seats c new short (λ d s. d ≡ 0 → (view_of s).joined ≡ []) 0 x
+          (λ zero. same.joined ∙ subst (λ (s : BusSeat). (view_of s).joined ≡ []) (sym (subst (λ n. old ≡ get_or seats n old) zero was)) (here.none_joined old))
+          (λ _ _. here.none_joined x) refl;
+      stands = λ d x v within. after_set BusSeat seats c new short (λ e s. StandsAt (view_of s) (get_or (set cores c core) e v)) d x
+          (subst (StandsAt (view_of new)) (sym (get_or-set_same cores c core v below)) stands)
+          (λ differs. subst (StandsAt (view_of (get_or seats d x))) (sym (get_or-set_other cores c d core v differs)) (here.stands d x v within));
+    }
+
+  -- ---- after the last slot
+
+  slot_is : (seat : BusSeat) (core : State) → StandsAt (view_of seat) core → core.slot ≡ (view_of seat).count
+  slot_is seat core at = ⊎_elim (λ p. p.in_slot.now) (λ p. p.in_slot.now) at
+
+  some_core : (cores : List State) (c : ℕ) → c < length cores → State
+  some_core [] c below = absurd (omega arith)
+  some_core (v ∷ vs) c below = v
+
+  module _ (seats : List BusSeat) (cores : List State) (here : AreHere bus job seats cores) (over : (c : ℕ) (v : State) → c < length cores → (get_or cores c v).slot ≡ job.shape.slots) where
+    last_seat : (c : ℕ) (x : BusSeat) → c < length seats → IsSeat bus job true job.shape.slots job.shape.cores c (get_or seats c x)
+    last_seat c x below =
+        let n = here.all_seats in
+        let m = here.all_cores in
+        let low : c < length cores = omega arith in
+        let v = some_core cores c low in
+        let count : (view_of (get_or seats c x)).count ≡ job.shape.slots = sym (slot_is (get_or seats c x) (get_or cores c v) (here.stands c x v (omega arith))) ∙ over c v low in
+        subst (λ n. IsSeat bus job true n job.shape.cores c (get_or seats c x)) count (here.seat c x (omega arith))
+
+    pub at_last : AreSeats bus job true job.shape.slots seats
+    at_last = record { within = here.within; all = here.all_seats; seated = record { order = last_seat; none_joined = here.none_joined } }

@@ -2,3 +2,4 @@ pub mod Meetings
 pub mod Rule
 pub mod Answers
 pub mod Seats
+pub mod TestRuns

@@ -7,6 +7,8 @@ mod meeting;
 mod opening;
 mod rule;
 mod seat;
+#[cfg(test)]
+mod tests;
 mod trying;
 mod view;
 

@@ -8,7 +8,7 @@ use Rattle.pmsi_model.specs.Shared.{BusSide}
 use Rattle.turn_bus.specs.declared.view.View.{View}
 use Rattle.turn_bus.specs.declared.seat.TurnSeat.{TurnSeat}
 use Rattle.turn_bus.specs.declared.seat.TurnBus.{TurnBus}
-use Rattle.turn_bus.specs.Rule.{Absent, one_more, new_seat, with_joined, Opening, Ending, IsBusAt}
+use Rattle.turn_bus.specs.Rule.{Absent, one_more, new_seat, with_joined, Ending, IsBusAt}
 use Rattle.turn_bus.specs.Seats.{view_of, IsOwn, IsSeat, Seated, OthersInOrder, AreJoined, AreSeats, AreLeft}
 
 get_front : (xs : List TurnSeat) (seat : TurnSeat) (k : ℕ) (d : TurnSeat) → k < length xs → get_or (xs ++ seat ∷ []) k d ≡ get_or xs k d
@@ -25,16 +25,6 @@ module _ (bus : TurnBus) (job : JobValue) (keep : Bool) (n : ℕ) (xs : List Tur
 
   none_joined : (view_of root).joined ≡ []
   none_joined = subst (λ (b : TurnSeat). (view_of b).joined ≡ []) (sym is) (seated.none_joined root)
-
-  pub can_open : n < job.shape.cores → Opening (view_of root)
-  can_open room = record {
-    zero = first.number;
-    none_joined = none_joined;
-    room = let m : (view_of root).made ≡ n = first.made_is refl in subst (λ (j : JobValue). (view_of root).made < j.shape.cores) (sym first.job_is) (omega arith);
-  }
-
-  pub own_root : IsOwn bus root
-  own_root = first.own
 
   module _ (own : IsOwn bus next × IsOwn bus seat) (views : (view_of next ≡ one_more (view_of root)) × (view_of seat ≡ new_seat (view_of root))) where
     root_seat : IsSeat bus job keep 0 (n + 1) 0 next

@@ -1,5 +1,5 @@
 -- Loads keep the rule, and tell what they are to tell: a look at the turn, a note of a record, and the owner's taking of the bus.
-use Rattle.std.proofs.Common.{◌≡◌, ℕ, ◌+◌, ◌<◌, ◌≤◌, List, [], ◌∷◌, Bool, true, false, length, set, slice_index, Some, None, refl, sym, ap, ◌∙◌, subst, arith, length-set}
+use Rattle.std.proofs.Common.{◌≡◌, ℕ, ◌+◌, ◌<◌, ◌≤◌, List, ◌∷◌, Bool, true, false, length, set, slice_index, Some, refl, sym, ap, ◌∙◌, subst, arith, length-set}
 use mathlib.Core.Option.{some, none}
 use lib.ListN.{get_elem?}
 use lib.Seq.{set-get_or}
@@ -138,13 +138,3 @@ HasTaken m m' = (b : BusSide) × (m' ≡ (has_bus m.0, (0, Some b) ∷ m.1)) × 
 
 pub slot_of : (m m' : Hand) → HasTaken m m' → (x : Slot) × (m'.1 ≡ (0, x) ∷ rest m'.1)
 slot_of m m' t = (Some t.0, subst (λ (h : Hand). h.1 ≡ (0, Some t.0) ∷ rest h.1) (sym t.1) refl)
-
-abbrev in_hand : List (ℕ × Slot) → Slot
-in_hand [] = None
-in_hand (x ∷ xs) = x.1
-
--- what comes out of the slot is the bus that the seat took
-pub out_of_slot : (m m' : Hand) (t : HasTaken m m') (x : Slot) → m'.1 ≡ (0, x) ∷ rest m'.1 → x ≡ Some t.0
-out_of_slot m m' t x out =
-    let same : (0, Some t.0) ∷ m.1 ≡ (0, x) ∷ m.1 = subst (λ (h : Hand). h.1 ≡ (0, x) ∷ rest h.1) t.1 out in
-    sym (ap in_hand same)

@@ -2,3 +2,4 @@ pub mod ActionNumbers
 pub mod Rule
 pub mod Answers
 pub mod Seats
+pub mod TestRuns

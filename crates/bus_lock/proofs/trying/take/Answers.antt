@@ -1,7 +1,7 @@
 use Rattle.std.proofs.Common.{rules}
 use mathlib.Core.Option.{none}
 use Rattle.atomic_table.specs.Table.{step}
-use Rattle.bus_lock.proofs.LockTries.{tries, free_of, slot_of, taken, missed_it, out_of_slot}
+use Rattle.bus_lock.proofs.LockTries.{tries, free_of, slot_of, taken}
 use Rattle.bus_lock.proofs.trying.take.Goals as goal
 
 pub fetch_or-found-requires : goal.fetch_or-found-requires

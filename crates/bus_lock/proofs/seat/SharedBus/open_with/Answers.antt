@@ -1,6 +1,6 @@
 use Rattle.std.proofs.Common.{rules, ◌≡◌, ◌+◌, ◌++◌, [], ◌∷◌, set, subst, sym}
 use Rattle.bus_lock.specs.Seats.{Seated}
-use Rattle.bus_lock.proofs.Seatings.{can_open, own_root, seated_more}
+use Rattle.bus_lock.proofs.Seatings.{seated_more}
 use Rattle.bus_lock.proofs.seat.SharedBus.open_with.Goals as goal
 
 pub loop-preserved : goal.loop-preserved

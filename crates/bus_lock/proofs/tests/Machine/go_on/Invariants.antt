@@ -1,0 +1,5 @@
+use Rattle.bus_lock.specs.TestRuns.{AreHere}
+use Rattle.bus_lock.proofs.tests.Machine.go_on.Given as goal
+
+abbrev pub invariant-loop-slot : goal.invariant-loop-slot
+invariant-loop-slot g l = AreHere l.self.bus l.self.job l.self.seats.items l.self.cores.items
