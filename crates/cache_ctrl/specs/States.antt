@@ -22,7 +22,7 @@ stable_of None = I
 stable_of (Some Shared) = S
 stable_of (Some Modified) = M
 
--- the state of a line that is held in this mode
+-- the state of a line: the listed one, or else the stable one of its mode
 abbrev pub state_at : ℕ → Option Mode → List LineState → State
 state_at line mode [] = stable_of mode
 state_at line mode (e ∷ es) = if e.line == line then e.state else state_at line mode es

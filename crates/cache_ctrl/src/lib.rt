@@ -40,8 +40,8 @@ pub enum Duty {
     DropCopy,
 }
 
-/// The state of a line after an event, and the core's duty. A pair of state and event that no run comes to is a condition
-/// of the call.
+/// The state of a line after an event, and the core's duty. The caller sees to it that the table has an entry: a pair of
+/// state and event without one comes in no run.
 pub fn next(state: State, event: Event) -> (State, Duty)
     requires { next_of state event ≢ None }
     ensures { next_of state event ≡ Some result }

@@ -11,7 +11,8 @@ use pmsi_model::limits::CORES_ROOM;
 use pmsi_model::{Mode, State};
 use std::marker::Model;
 
-/// The room of a list with each line that is on its way in a core: the line of its want, and those to write back.
+/// The room of a list with each line that is on its way in a core: the line of its want, and those to write back; and one
+/// more, so that a line whose state changes always has room.
 pub const STATES_ROOM: usize = CORES_ROOM + 2;
 
 /// A line and its state.
@@ -94,7 +95,7 @@ impl LineStates {
         LineStates { items }
     }
 
-    /// The state of a line that is held in this mode.
+    /// The state of a line: the listed one, or else the stable one of the mode in which it is held, if it is.
     pub fn state(&self, line: u32, mode: Option<Mode>) -> State
         ensures { result ≡ state_at line mode self.now }
     {
@@ -119,8 +120,9 @@ impl LineStates {
         }
     }
 
-    /// The state of a line that is held in this mode changes by the table. The answer is the new state and the core's duty,
-    /// which has to be done for the line's mode to be that of its state. No memory is taken.
+    /// The state of a line changes by the table. The answer is the new state and the core's duty. A stable state isn't listed,
+    /// so the caller brings the line into its mode: by the duty, and by taking it in after a fill or making it shared after a
+    /// write-back. No memory is taken.
     pub fn step(&mut self, line: u32, mode: Option<Mode>, event: Event) -> (State, Duty)
         requires comes { next_of (state_at line mode self.old) event ≢ None }
         requires room { length (other_states line self.old) < STATES_ROOM }

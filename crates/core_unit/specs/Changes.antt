@@ -25,15 +25,18 @@ state_name line v = state_at line (mode_of line (held_of v.cache.lines)) v.state
 unfoldable pub next_in : Event → ℕ → List LineState → List CachedLine → Option (LineName × Duty)
 next_in event line states lines = next_of (state_at line (mode_of line (held_of lines)) states) event
 
+-- the same of a core
 abbrev pub next_for : Event → ℕ → State → Option (LineName × Duty)
 next_for event line v = next_in event line v.states v.cache.lines
 
 -- ---- a duty is done
 
+-- the duty of an entry of the table
 abbrev pub duty_in : Option (LineName × Duty) → Duty
 duty_in None = Nothing
 duty_in (Some next) = next.1
 
+-- the cached lines after a duty
 abbrev pub lines_by : Duty → ℕ → List CachedLine → List CachedLine
 lines_by Nothing line lines = lines
 lines_by Append line lines = lines
@@ -48,10 +51,12 @@ with_duty duty line v = record v {
 
 -- ---- the change
 
+-- the listed states after an entry of the table
 abbrev pub states_in : Option (LineName × Duty) → ℕ → List LineState → List LineState
 states_in None line states = states
 states_in (Some next) line states = with_state line next.0 states
 
+-- the state after an entry of the table
 abbrev pub changed_by : Option (LineName × Duty) → ℕ → State → State
 changed_by next line v = record (with_duty (duty_in next) line v) { states = states_in next line v.states }
 
@@ -76,7 +81,7 @@ stays_in state = false
 
 -- ---- what has to hold before
 
--- a dropped copy is held; a line that is to be written back isn't listed yet, and has room
+-- a dropped copy is held; a line that is to be written back isn't in the write-back queue yet, which has room
 abbrev pub CanDo : Duty → ℕ → State → Type 0
 CanDo Nothing line v = Unit {0}
 CanDo Append line v = (has_line line v.pending.write_backs ≡ false) × (length v.pending.write_backs < v.pending.cores)

@@ -37,12 +37,13 @@ PartsAlike = (job : JobValue) (slot c : ℕ) (u v : State) → u.keeps ≡ v.kee
 abbrev pub PartsAfterAlike : Type 0
 PartsAfterAlike = (job : JobValue) (slot c : ℕ) (u v : State) → u.keeps ≡ v.keeps → IsPartAfter job slot c u → IsPartAfter job slot c v → ReadAlike u v
 
--- a request is left behind, and a write
+-- whether anything is left behind
 abbrev pub is_left : Behind → Bool
 is_left Nobody = false
 is_left Reads = true
 is_left Write = true
 
+-- whether a write is
 abbrev pub is_write_left : Behind → Bool
 is_write_left Nobody = false
 is_write_left Reads = false

@@ -60,12 +60,13 @@ pub record StandsFor (job : JobValue) (c : ℕ) (y : Context) (v : State) : Type
   pub carries : Carries job c y.memory v
   pub core : y.core ≡ core_of v
 
--- a core knows the states of its lines: the listed states and the modes give those of the machine, and a line is listed once
+-- a core knows the states of its lines: the listed states and the modes give those of the machine, and a line is listed once,
+-- in a state that isn't stable
 pub record KnowsStates (posted : List Request) (c : ℕ) (v : State) : Type 0 where
   pub names : Knows v.states (core_of v) (state_in posted c (core_of v))
   pub once : AreTransient v.states
 
--- where it knew them it knows them, as long as it has no request
+-- where it knew them it knows them, as long as it has posted no request
 abbrev pub KeepsStates : State → State → Type 0
 KeepsStates old new = (posted : List Request) (c : ℕ) → request_of c posted ≡ None → KnowsStates posted c old → KnowsStates posted c new
 

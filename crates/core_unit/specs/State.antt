@@ -220,9 +220,11 @@ backed line lines v =
 
 -- ---- another core's action is snooped
 
+-- another core's request changes the state of its line
 abbrev pub snooped_request : Kind → ℕ → State → State
 snooped_request kind line v = changed (other_event kind) line v
 
+-- of another core's action a post alone is noted
 abbrev pub snooped : Action → State → State
 snooped Idle v = v
 snooped (Post name line) v = snooped_request (kind_of_name name) line v

@@ -12,7 +12,8 @@ pub fn parts_after_alike()
     ensures { PartsAfterAlike }
 {}
 
-/// The state of a line for which a request is posted tells, before it is served, what the bus will say is left behind it.
+/// The state of a line for which a request is posted tells, before it is served, what the bus will say is left: of a write
+/// whether nothing, reads alone or a write is behind it, of a read whether a write is.
 pub fn behind_is_told()
     ensures { BehindIsTold }
 {}

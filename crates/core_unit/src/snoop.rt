@@ -32,7 +32,7 @@ impl State {
 
     /// Snoops the action of the slot's owner, and ends the slot.
     pub fn snoop(&mut self, action: Action)
-        requires room { CanSnoopAction action self.old }
+        requires can { CanSnoopAction action self.old }
         requires more { self.old.slot + 1 < 2 ^ 32 }
         ensures { self.new ≡ stepped (snooped action self.old) }
     {

@@ -177,7 +177,7 @@ impl Core {
         &self.state.cache
     }
 
-    /// The state of a line, which is the machine's.
+    /// The state of a line, which is the machine's. A line that memory doesn't have is I.
     pub fn state_name(&self, line: u32) -> LineName
         ensures at { (job : JobValue) (slot c : ℕ) → IsPart job slot c self.now → result ≡ state_of (machine_at job slot) c line }
         ensures after { (job : JobValue) (slot c : ℕ) → IsPartAfter job slot c self.now → result ≡ state_of (phase job c (machine_at job slot)) c line }

@@ -6,8 +6,8 @@ use Rattle.core_unit.proofs.SnoopsSlots.{can_snoop_action, has_next, snooped_by,
 use Rattle.core_unit.proofs.unit.Core.snoop.Goals.{After-snoop}
 use Rattle.core_unit.proofs.unit.Core.snoop.Goals as goal
 
-pub snoop-requires-clause-room : goal.snoop-requires-clause-room
-snoop-requires-clause-room c = subst (CanSnoopAction c.args.action) (sym c.self.view_is) (can_snoop_action c.args.by c.args.action c.args.self.now c.requires)
+pub snoop-requires-clause-can : goal.snoop-requires-clause-can
+snoop-requires-clause-can c = subst (CanSnoopAction c.args.action) (sym c.self.view_is) (can_snoop_action c.args.by c.args.action c.args.self.now c.requires)
 
 pub snoop-requires-clause-more : goal.snoop-requires-clause-more
 snoop-requires-clause-more c = subst (λ (v : State). v.slot + 1 < 2 ^ 32) (sym c.self.view_is) (has_next c.args.by c.args.action c.args.self.now c.requires)
