@@ -5,6 +5,8 @@ ghost use Rattle.pmsi_model.specs.declared.limits.TheConstants.{MAX_TEXT_WORDS, 
 ghost use Rattle.pmsi_model.specs.Geometry.{most_touches};
 ghost use Rattle.sim_serial.specs.Sims.{shape_of, slot_of};
 
+mod cells;
+
 use crate::Sim;
 use pmsi_model::{
     Action, Bytes, Geometry, Halt, Job, Keep, Kind, Mode, Name, OpenRow, Reg, Row, State, Status,
