@@ -3,4 +3,3 @@ pub mod Opens
 pub mod Words
 pub mod Keeps
 pub mod Sims
-pub mod StateNames

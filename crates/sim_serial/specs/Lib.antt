@@ -1,3 +1,2 @@
 pub mod Cores
 pub mod Sims
-pub mod States

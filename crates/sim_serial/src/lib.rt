@@ -3,7 +3,6 @@
 
 mod cores;
 mod sim;
-mod states;
 #[cfg(test)]
 mod tests;
 

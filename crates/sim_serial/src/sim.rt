@@ -5,16 +5,18 @@ ghost use Rattle.pmsi_model.specs.declared.limits.TheConstants.{MAX_SLOTS};
 ghost use Rattle.pmsi_model.specs.declared.Keep.{Keep};
 ghost use Rattle.pmsi_model.specs.Geometry.{CanKeep, IsGeometry};
 ghost use Rattle.pmsi_model.specs.Job.{JobValue};
+ghost use Rattle.pmsi_model.specs.Named.{state_of};
 ghost use Rattle.pmsi_model.specs.Phase.{bytes_from};
 ghost use Rattle.pmsi_model.specs.Rows.{open_row_of, rows_of};
 ghost use Rattle.pmsi_model.specs.Run.{machine_at};
 ghost use Rattle.pmsi_model.specs.Parts.{IsBusPart};
+ghost use Rattle.pmsi_model.specs.Shared.{IsLine};
 ghost use Rattle.pmsi_model.specs.Words.{number_of};
 
 use crate::cores::{copy_cores, take_slot};
 use bus_core::Bus;
 use core_unit::{Core, open_cores};
-use pmsi_model::{BusPort, Geometry, Job, Keep, Mode, NoMemory, OpenRow, Row};
+use pmsi_model::{BusPort, Geometry, Job, Keep, Mode, NoMemory, OpenRow, Row, State};
 use std::alloc::Global;
 use std::marker::Model;
 
@@ -152,6 +154,15 @@ impl Sim {
             Some(owner) => self.core(owner).cache().read_word(address),
             None => memory.word(address),
         }
+    }
+
+    /// The named state of a line in a core.
+    pub fn state_name(&self, c: u32, line: u32) -> State
+        requires core { c < (shape_of self.now).cores }
+        requires line { IsLine (shape_of self.now) line }
+        ensures { (job : JobValue) (slot : ℕ) → IsSimOf job slot self.now → result ≡ state_of (machine_at job slot) c line }
+    {
+        self.core(c).state_name(line)
     }
 
     /// The line at a place of a core's held list, the most recently used at 0.
