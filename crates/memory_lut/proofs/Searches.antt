@@ -1,11 +1,10 @@
 -- What searches of the table find.
-use Rattle.std.proofs.Common.{◌≡◌, ℕ, ◌+◌, ◌<◌, ◌≤◌, List, [], ◌∷◌, length, Option, Some, None, Bool, false, ◌==◌, ◌&&◌, ◌||◌, nat_le, nat_lt, if◌then◌else◌, option_map, refl, sym, ap, ◌∙◌, arith}
+use Rattle.std.proofs.Common.{◌≡◌, ℕ, ◌+◌, ◌<◌, ◌≤◌, List, [], ◌∷◌, length, Option, Some, None, Bool, ◌==◌, ◌&&◌, nat_lt, if◌then◌else◌, option_map, refl, sym, ap, ◌∙◌, arith}
 use Rattle.std.specs.List.{filter, fold, list_any}
 use Rattle.pmsi_model.specs.Machine.{Request, is_write, first_of, has_request, has_write, ahead}
-use Rattle.pmsi_model.specs.Named.{behind_of}
 use Rattle.pmsi_model.specs.Shared.{behind_in}
 use Rattle.memory_lut.specs.declared.entry.Entry.{Entry}
-use Rattle.memory_lut.specs.Table.{inserted, by_stamp, request_at, requests_of, posted_of, AreAbove, Rises, sooner, soonest, is_before, is_from, queued_from}
+use Rattle.memory_lut.specs.Table.{inserted, by_stamp, requests_of, posted_of, AreAbove, Rises, sooner, soonest, is_before, meets, queued}
 use Rattle.memory_lut.proofs.ByStamp.{rises_rest, core_entry}
 
 -- ---- the first of a line
@@ -84,32 +83,14 @@ count_ahead c line es s r is = count_before line s.stamp es ∙ ahead_before c l
 
 -- ---- what is queued
 
-abbrev any_in : (Request → Bool) → ℕ → List Entry → Bool
-any_in test from [] = false
-any_in test from (x ∷ xs) = (test (request_at x) && nat_le from x.stamp) || any_in test from xs
+any_inserted : (test : Request → Bool) (e : Entry) (xs : List Entry) → list_any test (requests_of (inserted e xs)) ≡ list_any test (requests_of (e ∷ xs))
+any_inserted test e [] = refl
+any_inserted test e (x ∷ xs) = grind (arith, any_inserted test e xs)
 
-any_inserted : (test : Request → Bool) (from : ℕ) (e : Entry) (xs : List Entry) → any_in test from (inserted e xs) ≡ any_in test from (e ∷ xs)
-any_inserted test from e [] = refl
-any_inserted test from e (x ∷ xs) = grind (arith, any_inserted test from e xs)
-
-any_from : (test : Request → Bool) (from : ℕ) (es : List (Option Entry)) → list_any (is_from test from) es ≡ any_in test from (by_stamp es)
-any_from test from [] = refl
-any_from test from (None ∷ es) = any_from test from es
-any_from test from (Some s ∷ es) = grind (arith, any_from test from es, any_inserted test from s (by_stamp es))
-
-any_all : (test : Request → Bool) (xs : List Entry) → any_in test 0 xs ≡ list_any test (requests_of xs)
-any_all test [] = refl
-any_all test (x ∷ xs) = grind (arith, any_all test xs)
-
-any_above : (test : Request → Bool) (n : ℕ) (xs : List Entry) → AreAbove n xs → any_in test (n + 1) xs ≡ list_any test (requests_of xs)
-any_above test n [] a = refl
-any_above test n (x ∷ xs) a = grind (arith, any_above test n xs a.1, a.0)
-
-any_behind : (test : Request → Bool) (c : ℕ) (xs : List Entry) (s : Entry) → Rises xs → core_entry c xs ≡ Some s
-    → any_in test (s.stamp + 1) xs ≡ list_any test (behind_of c (requests_of xs))
-unfolding behind_of
-any_behind test c [] s r is = refl
-any_behind test c (x ∷ xs) s r is = grind (arith, any_behind test c xs s r.1, any_above test x.stamp xs r.0, core_above x.stamp c xs s r.0, is)
+any_posted : (test : Request → Bool) (es : List (Option Entry)) → list_any (meets test) es ≡ list_any test (posted_of es)
+any_posted test [] = refl
+any_posted test (None ∷ es) = any_posted test es
+any_posted test (Some s ∷ es) = grind (arith, any_posted test es, any_inserted test s (by_stamp es))
 
 any_request : (line : ℕ) (rs : List Request) → list_any (λ r. r.line == line) rs ≡ has_request line rs
 any_request line [] = refl
@@ -119,21 +100,8 @@ any_write : (line : ℕ) (rs : List Request) → list_any (λ r. (r.line == line
 any_write line [] = refl
 any_write line (r ∷ rs) = grind (arith, any_write line rs)
 
-pub queued_all : (line : ℕ) (es : List (Option Entry)) → queued_from line 0 es ≡ behind_in line (posted_of es)
+pub queued_all : (line : ℕ) (es : List (Option Entry)) → queued line es ≡ behind_in line (posted_of es)
 queued_all line es =
-    let request = any_from (λ r. r.line == line) 0 es ∙ any_all (λ r. r.line == line) (by_stamp es) ∙ any_request line (posted_of es) in
-    let write = any_from (λ r. (r.line == line) && is_write r.kind) 0 es ∙ any_all (λ r. (r.line == line) && is_write r.kind) (by_stamp es) ∙ any_write line (posted_of es) in
+    let request = any_posted (λ r. r.line == line) es ∙ any_request line (posted_of es) in
+    let write = any_posted (λ r. (r.line == line) && is_write r.kind) es ∙ any_write line (posted_of es) in
     rw (request, write) refl
-
-pub queued_behind : (c line : ℕ) (es : List (Option Entry)) (s : Entry) → Rises (by_stamp es) → core_entry c (by_stamp es) ≡ Some s
-    → queued_from line (s.stamp + 1) es ≡ behind_in line (behind_of c (posted_of es))
-queued_behind c line es s r is =
-    let behind = behind_of c (posted_of es) in
-    let request = any_from (λ r. r.line == line) (s.stamp + 1) es ∙ any_behind (λ r. r.line == line) c (by_stamp es) s r is ∙ any_request line behind in
-    let write = any_from (λ r. (r.line == line) && is_write r.kind) (s.stamp + 1) es ∙ any_behind (λ r. (r.line == line) && is_write r.kind) c (by_stamp es) s r is ∙ any_write line behind in
-    rw (request, write) refl
-
-pub behind_none : (c : ℕ) (xs : List Entry) → core_entry c xs ≡ None → behind_of c (requests_of xs) ≡ []
-unfolding behind_of
-behind_none c [] none = refl
-behind_none c (x ∷ xs) none = grind (arith, behind_none c xs)

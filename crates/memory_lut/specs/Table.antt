@@ -94,16 +94,16 @@ abbrev pub is_before : ℕ → ℕ → Option Entry → Bool
 is_before line stamp None = false
 is_before line stamp (Some s) = (s.line == line) && nat_lt s.stamp stamp
 
--- the entry has a request that meets a test, with a stamp from a number on
-abbrev pub is_from : (Request → Bool) → ℕ → Option Entry → Bool
-is_from test from None = false
-is_from test from (Some s) = test (request_at s) && nat_le from s.stamp
+-- the entry has a request that meets a test
+abbrev pub meets : (Request → Bool) → Option Entry → Bool
+meets test None = false
+meets test (Some s) = test (request_at s)
 
--- what is queued for a line from a stamp on
-abbrev pub queued_from : ℕ → ℕ → List (Option Entry) → Behind
-queued_from line from es =
-    if list_any (is_from (λ r. (r.line == line) && is_write r.kind) from) es then WriteBehind
-    else (if list_any (is_from (λ r. r.line == line) from) es then Reads else Nobody)
+-- what is queued for a line
+abbrev pub queued : ℕ → List (Option Entry) → Behind
+queued line es =
+    if list_any (meets (λ r. (r.line == line) && is_write r.kind)) es then WriteBehind
+    else (if list_any (meets (λ r. r.line == line)) es then Reads else Nobody)
 
 -- ---- new stamps
 

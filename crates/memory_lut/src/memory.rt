@@ -3,7 +3,6 @@ ghost use Rattle.std.specs.Prelude.{◌≡◌, ℕ, ◌/◌, ◌%◌, ◌<◌, [
 ghost use Rattle.std.specs.Option.{option_map};
 ghost use Rattle.pmsi_model.specs.Geometry.{IsGeometry};
 ghost use Rattle.pmsi_model.specs.Machine.{Request, first_of, ahead, request_of, removed};
-ghost use Rattle.pmsi_model.specs.Named.{behind_of};
 ghost use Rattle.pmsi_model.specs.Shared.{IsShared, CanPost, CanWriteBack, owner_in, line_in, is_ready, behind_in, with_request, filled, written_back};
 ghost use Rattle.pmsi_model.specs.Parts.{word_at};
 
@@ -96,20 +95,6 @@ impl SharedMemory {
         ensures { result ≡ option_map (λ r. ahead core r.line self.now.posted) (request_of core self.now.posted) }
     {
         self.requests.ahead(core)
-    }
-
-    /// What is queued for a line.
-    pub fn queued(&self, line: u32) -> Behind
-        ensures { result ≡ behind_in line self.now.posted }
-    {
-        self.requests.queued(line)
-    }
-
-    /// What is queued for a line behind a core's request: nothing where the core has none.
-    pub fn behind(&self, core: u32, line: u32) -> Behind
-        ensures { result ≡ behind_in line (behind_of core self.now.posted) }
-    {
-        self.requests.behind(core, line)
     }
 
     /// The word at an address.

@@ -4,9 +4,8 @@ ghost use Rattle.std.specs.List.{filter, list_any};
 ghost use Rattle.pmsi_model.specs.declared.limits.TheConstants.{MAX_CORES};
 ghost use Rattle.pmsi_model.specs.Machine.{is_write, first_of, ahead, request_of, removed};
 ghost use Rattle.pmsi_model.specs.Bus.{is_core};
-ghost use Rattle.pmsi_model.specs.Named.{behind_of};
 ghost use Rattle.pmsi_model.specs.Shared.{behind_in};
-ghost use Rattle.memory_lut.specs.Table.{request_at, sooner, soonest, is_before, is_from, queued_from};
+ghost use Rattle.memory_lut.specs.Table.{request_at, sooner, soonest, is_before, meets, queued};
 
 use crate::entry::Entry;
 use crate::stamps;
@@ -77,47 +76,43 @@ fn count_before(entries: &[Option<Entry>], line: u32, stamp: u64) -> u32
         .count() as u32
 }
 
-/// Whether an entry has a request for a line, with a stamp from this one on.
-fn is_request_from(entry: &Option<Entry>, line: u32, from: u64) -> bool
-    ensures { result ≡ is_from (λ r. r.line == line) from entry.now }
+fn is_request(entry: &Option<Entry>, line: u32) -> bool
+    ensures { result ≡ meets (λ r. r.line == line) entry.now }
 {
     match entry {
-        Some(entry) => entry.line == line && from <= entry.stamp,
+        Some(entry) => entry.line == line,
         None => false,
     }
 }
 
-/// Whether an entry has a write for a line, with a stamp from this one on.
-fn is_write_from(entry: &Option<Entry>, line: u32, from: u64) -> bool
-    ensures { result ≡ is_from (λ r. (r.line == line) && is_write r.kind) from entry.now }
+fn is_write(entry: &Option<Entry>, line: u32) -> bool
+    ensures { result ≡ meets (λ r. (r.line == line) && is_write r.kind) entry.now }
 {
     match entry {
-        Some(entry) => entry.line == line && entry.kind == Kind::Write && from <= entry.stamp,
+        Some(entry) => entry.line == line && entry.kind == Kind::Write,
         None => false,
     }
 }
 
-fn has_request_from(entries: &[Option<Entry>], line: u32, from: u64) -> bool
-    ensures { result ≡ list_any (is_from (λ r. r.line == line) from) entries.now }
+fn has_request(entries: &[Option<Entry>], line: u32) -> bool
+    ensures { result ≡ list_any (meets (λ r. r.line == line)) entries.now }
 {
-    entries
-        .iter()
-        .any(|entry| is_request_from(entry, line, from))
+    entries.iter().any(|entry| is_request(entry, line))
 }
 
-fn has_write_from(entries: &[Option<Entry>], line: u32, from: u64) -> bool
-    ensures { result ≡ list_any (is_from (λ r. (r.line == line) && is_write r.kind) from) entries.now }
+fn has_write(entries: &[Option<Entry>], line: u32) -> bool
+    ensures { result ≡ list_any (meets (λ r. (r.line == line) && is_write r.kind)) entries.now }
 {
-    entries.iter().any(|entry| is_write_from(entry, line, from))
+    entries.iter().any(|entry| is_write(entry, line))
 }
 
-/// What is queued for a line from a stamp on.
-fn queued_from(entries: &[Option<Entry>], line: u32, from: u64) -> Behind
-    ensures { result ≡ queued_from line from entries.now }
+/// What is queued for a line.
+fn queued(entries: &[Option<Entry>], line: u32) -> Behind
+    ensures { result ≡ queued line entries.now }
 {
-    if has_write_from(entries, line, from) {
+    if has_write(entries, line) {
         Behind::Write
-    } else if has_request_from(entries, line, from) {
+    } else if has_request(entries, line) {
         Behind::Reads
     } else {
         Behind::Nobody
@@ -200,18 +195,7 @@ impl Requests {
     pub fn queued(&self, line: u32) -> Behind
         ensures { result ≡ behind_in line self.now.posted }
     {
-        queued_from(self.entries.as_slice(), line, 0)
-    }
-
-    /// What is queued for a line behind a core's request.
-    pub fn behind(&self, core: u32, line: u32) -> Behind
-        ensures { result ≡ behind_in line (behind_of core self.now.posted) }
-    {
-        let entries = self.entries.as_slice();
-        match entry_of(entries, core) {
-            Some(own) => queued_from(entries, line, own.stamp + 1),
-            None => Behind::Nobody,
-        }
+        queued(self.entries.as_slice(), line)
     }
 
     /// Takes the request of a core away.
