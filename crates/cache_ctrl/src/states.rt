@@ -3,7 +3,7 @@ ghost use Rattle.std.specs.Prelude.{◌≡◌, ◌≢◌, ◌<◌, [], ◌∷◌
 ghost use Rattle.std.specs.List.{find};
 ghost use Rattle.cache_ctrl.specs.declared.states.TheConstants.{STATES_ROOM};
 ghost use Rattle.cache_ctrl.specs.Table.{next_of};
-ghost use Rattle.cache_ctrl.specs.States.{is_stable, other_states, stable_of, state_at, with_state};
+ghost use Rattle.cache_ctrl.specs.States.{is_stable, listed, other_states, stable_of, state_at, with_state};
 
 use crate::{Duty, Event, next};
 use arrayvec::ArrayVec;
@@ -102,19 +102,21 @@ impl LineStates {
         state_in(self.items.as_slice(), line).unwrap_or(stable(mode))
     }
 
-    /// The line is listed no more.
-    fn remove(&mut self, line: u32)
+    /// The line is listed no more. Where it isn't, which is nearly always so, no entry is moved.
+    fn remove(&mut self, line: u32, listed: Option<State>)
+        requires { listed ≡ option_map (λ e. e.state) (find (λ e. e.line == line) self.old) }
         ensures { self.new ≡ other_states line self.old }
     {
-        self.items.retain(|item| item.line != line);
+        if listed.is_some() {
+            self.items.retain(|item| item.line != line);
+        }
     }
 
-    /// The line gets this state.
-    fn put(&mut self, line: u32, state: State)
-        requires { length (other_states line self.old) < STATES_ROOM }
-        ensures { self.new ≡ with_state line state self.old }
+    /// The line, which isn't listed, gets this state.
+    fn list(&mut self, line: u32, state: State)
+        requires { length self.old < STATES_ROOM }
+        ensures { self.new ≡ self.old ++ listed line state }
     {
-        self.remove(line);
         if !is_stable(state) {
             self.items.push(LineState { line, state });
         }
@@ -129,8 +131,10 @@ impl LineStates {
         ensures entry { next_of (state_at line mode self.old) event ≡ Some result }
         ensures after { self.new ≡ with_state line result.0 self.old }
     {
-        let (state, duty) = next(self.state(line, mode), event);
-        self.put(line, state);
+        let listed = state_in(self.items.as_slice(), line);
+        let (state, duty) = next(listed.unwrap_or(stable(mode)), event);
+        self.remove(line, listed);
+        self.list(line, state);
         (state, duty)
     }
 }
