@@ -46,6 +46,7 @@ pub(crate) fn answer_of<F: Files>(
     ensures text { IfOk result (λ text. Gives tool_call (map string_bytes words.now) (F.contents files.old) text.items) }
     ensures complaint { IfErr result (Stands tool_call (map string_bytes words.now)
         (files_call (F.contents files.old) (F.faults files.old) (F.faults files.new) (F.blamed files.new))) }
+    ensures unopened { IfErr result (λ complaint. complaint ≡ Complaint.Usage → files.new ≡ files.old) }
     ensures contents { F.contents files.new ≡ F.contents files.old }
 {
     let asked = asked_in(alloc, words)?;
@@ -59,6 +60,7 @@ fn result_of<F: Files>(alloc: Global, asked: Asked<'_>, files: &mut F) -> Result
     ensures text { IfOk result (λ text. GivesText (F.contents files.old) (value_of asked.entry) text.items) }
     ensures complaint { IfErr result (ComplainsOn tool_call (value_of asked.entry)
         (files_call (F.contents files.old) (F.faults files.old) (F.faults files.new) (F.blamed files.new))) }
+    ensures unopened { IfErr result (λ complaint. complaint ≡ Complaint.Usage → files.new ≡ files.old) }
     ensures contents { F.contents files.new ≡ F.contents files.old }
 {
     match asked {

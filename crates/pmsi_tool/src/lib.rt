@@ -63,6 +63,8 @@ pub fn tool<F: Files, O: Sink, E: Sink>(
     ensures done_silent { result ≡ ToolStatus.Done → err.new ≡ err.old }
     ensures usage { result ≡ ToolStatus.Usage → IsUsage tool_call (map string_bytes words.now)
         (sink_call (E.faults err.old) (E.faults err.new) (E.held err.old) (E.held err.new)) }
+    // No file was opened.
+    ensures usage_files { result ≡ ToolStatus.Usage → files.new ≡ files.old }
     ensures read_fault { result ≡ ToolStatus.ReadFault → ReadFails tool_call (map string_bytes words.now)
         (files_call (F.contents files.old) (F.faults files.old) (F.faults files.new) (F.blamed files.new))
         (sink_call (E.faults err.old) (E.faults err.new) (E.held err.old) (E.held err.new)) }
@@ -110,6 +112,8 @@ pub fn tool_threads<R: Threads + Wait + Sync, F: Files, O: Sink, E: Sink, G: Gat
     ensures done_silent { result ≡ ToolStatus.Done → err.new ≡ err.old }
     ensures usage { result ≡ ToolStatus.Usage → IsUsage threads_call (map string_bytes words.now)
         (sink_call (E.faults err.old) (E.faults err.new) (E.held err.old) (E.held err.new)) }
+    // No file was opened.
+    ensures usage_files { result ≡ ToolStatus.Usage → files.new ≡ files.old }
     ensures read_fault { result ≡ ToolStatus.ReadFault → ReadFails threads_call (map string_bytes words.now)
         (files_call (F.contents files.old) (F.faults files.old) (F.faults files.new) (F.blamed files.new))
         (sink_call (E.faults err.old) (E.faults err.new) (E.held err.old) (E.held err.new)) }

@@ -28,7 +28,8 @@ pub(crate) fn write_text<O: Sink, E: Sink>(text: &[u8], out: &mut O, err: &mut E
 
 /// Tells a complaint; where there is no memory for its line, that is told instead.
 pub(crate) fn complain<E: Sink>(alloc: Global, complaint: Complaint, err: &mut E) -> ToolStatus
-    ensures { IsTold result (sink_call (E.faults err.old) (E.faults err.new) (E.held err.old) (E.held err.new)) complaint
+    ensures usage { result ≡ ToolStatus.Usage → complaint ≡ Complaint.Usage }
+    ensures told { IsTold result (sink_call (E.faults err.old) (E.faults err.new) (E.held err.old) (E.held err.new)) complaint
         ⊎ IsTold result (sink_call (E.faults err.old) (E.faults err.new) (E.held err.old) (E.held err.new)) (Complaint.Stopped Stop.NoMemory) }
 {
     match complaint {

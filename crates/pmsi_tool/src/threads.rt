@@ -28,6 +28,7 @@ pub(crate) fn threads_answer_of<R: Threads + Wait + Sync, F: Files, G: Gate + Sy
     ensures text { IfOk result (λ text. Gives threads_call (map string_bytes words.now) (F.contents files.old) text.items) }
     ensures complaint { IfErr result (Stands threads_call (map string_bytes words.now)
         (files_call (F.contents files.old) (F.faults files.old) (F.faults files.new) (F.blamed files.new))) }
+    ensures unopened { IfErr result (λ complaint. complaint ≡ Complaint.Usage → files.new ≡ files.old) }
     ensures contents { F.contents files.new ≡ F.contents files.old }
 {
     let asked = asked_in(alloc, words)?;
@@ -47,6 +48,7 @@ fn result_of<R: Threads + Wait + Sync, F: Files, G: Gate + Sync>(
     ensures text { IfOk result (λ text. GivesText (F.contents files.old) (value_of asked.entry) text.items) }
     ensures complaint { IfErr result (ComplainsOn threads_call (value_of asked.entry)
         (files_call (F.contents files.old) (F.faults files.old) (F.faults files.new) (F.blamed files.new))) }
+    ensures unopened { IfErr result (λ complaint. complaint ≡ Complaint.Usage → files.new ≡ files.old) }
     ensures contents { F.contents files.new ≡ F.contents files.old }
 {
     match asked {

@@ -19,22 +19,22 @@ returns-in-Ok-clause-refused_always g c = λ asked helds place detail holds is _
 pub returns-in-Err-clause-refused : goal.returns-in-Err-clause-refused
 returns-in-Err-clause-refused g c = λ is. refusal_complaint tool_call (map (string_bytes {Z = Global}) c.args.words.now)
     (files_call (g.F.Files.contents c.args.files.now) (g.F.Files.faults c.args.files.now) (g.F.Files.faults c.answer_of.new.files) (g.F.Files.blamed c.answer_of.new.files)) c.complain.result
-    (sink_call (g.E.Sink.faults c.args.err.now) (g.E.Sink.faults c.complain.new.err) (g.E.Sink.held c.args.err.now) (g.E.Sink.held c.complain.new.err)) c.in-Err.complaint is c.in-Err.ensures.complaint c.complain.ensures
+    (sink_call (g.E.Sink.faults c.args.err.now) (g.E.Sink.faults c.complain.new.err) (g.E.Sink.held c.args.err.now) (g.E.Sink.held c.complain.new.err)) c.in-Err.complaint is c.in-Err.ensures.complaint c.complain.ensures.told
 
 pub returns-in-Err-clause-write_fault : goal.returns-in-Err-clause-write_fault
 returns-in-Err-clause-write_fault g c = λ is. inr (
   refl,
   fault_complaint tool_call (map (string_bytes {Z = Global}) c.args.words.now)
       (files_call (g.F.Files.contents c.args.files.now) (g.F.Files.faults c.args.files.now) (g.F.Files.faults c.answer_of.new.files) (g.F.Files.blamed c.answer_of.new.files)) c.complain.result
-      (sink_call (g.E.Sink.faults c.args.err.now) (g.E.Sink.faults c.complain.new.err) (g.E.Sink.held c.args.err.now) (g.E.Sink.held c.complain.new.err)) c.in-Err.complaint is c.in-Err.ensures.complaint c.complain.ensures,
+      (sink_call (g.E.Sink.faults c.args.err.now) (g.E.Sink.faults c.complain.new.err) (g.E.Sink.held c.args.err.now) (g.E.Sink.held c.complain.new.err)) c.in-Err.complaint is c.in-Err.ensures.complaint c.complain.ensures.told,
 )
 
 pub returns-in-Err-clause-complete : goal.returns-in-Err-clause-complete
 returns-in-Err-clause-complete g c = complete_complaint tool_call (map (string_bytes {Z = Global}) c.args.words.now)
     (files_call (g.F.Files.contents c.args.files.now) (g.F.Files.faults c.args.files.now) (g.F.Files.faults c.answer_of.new.files) (g.F.Files.blamed c.answer_of.new.files)) c.complain.result
-    (sink_call (g.E.Sink.faults c.args.err.now) (g.E.Sink.faults c.complain.new.err) (g.E.Sink.held c.args.err.now) (g.E.Sink.held c.complain.new.err)) (sink_call (g.O.Sink.faults c.args.out.now) (g.O.Sink.faults c.args.out.now) (g.O.Sink.held c.args.out.now) (g.O.Sink.held c.args.out.now)) c.in-Err.complaint c.in-Err.ensures.complaint c.complain.ensures
+    (sink_call (g.E.Sink.faults c.args.err.now) (g.E.Sink.faults c.complain.new.err) (g.E.Sink.held c.args.err.now) (g.E.Sink.held c.complain.new.err)) (sink_call (g.O.Sink.faults c.args.out.now) (g.O.Sink.faults c.args.out.now) (g.O.Sink.held c.args.out.now) (g.O.Sink.held c.args.out.now)) c.in-Err.complaint c.in-Err.ensures.complaint c.complain.ensures.told
 
 pub returns-in-Err-clause-refused_always : goal.returns-in-Err-clause-refused_always
 returns-in-Err-clause-refused_always g c = refused_complaint tool_call (map (string_bytes {Z = Global}) c.args.words.now)
     (files_call (g.F.Files.contents c.args.files.now) (g.F.Files.faults c.args.files.now) (g.F.Files.faults c.answer_of.new.files) (g.F.Files.blamed c.answer_of.new.files)) c.complain.result
-    (sink_call (g.E.Sink.faults c.args.err.now) (g.E.Sink.faults c.complain.new.err) (g.E.Sink.held c.args.err.now) (g.E.Sink.held c.complain.new.err)) (sink_call (g.O.Sink.faults c.args.out.now) (g.O.Sink.faults c.args.out.now) (g.O.Sink.held c.args.out.now) (g.O.Sink.held c.args.out.now)) c.in-Err.complaint c.in-Err.ensures.complaint c.complain.ensures
+    (sink_call (g.E.Sink.faults c.args.err.now) (g.E.Sink.faults c.complain.new.err) (g.E.Sink.held c.args.err.now) (g.E.Sink.held c.complain.new.err)) (sink_call (g.O.Sink.faults c.args.out.now) (g.O.Sink.faults c.args.out.now) (g.O.Sink.held c.args.out.now) (g.O.Sink.held c.args.out.now)) c.in-Err.complaint c.in-Err.ensures.complaint c.complain.ensures.told
