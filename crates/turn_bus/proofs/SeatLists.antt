@@ -8,11 +8,10 @@ use Rattle.atomic_table.specs.Table.{Splits, Joins, Final, Seen, opening}
 use Rattle.atomic_table.proofs.Lists.{at_set, set_else, at_longer}
 use Rattle.pmsi_model.specs.Job.{JobValue, IsJob}
 use Rattle.pmsi_model.specs.Slots.{plan_of, gap_of}
-use Rattle.pmsi_model.specs.Shared.{BusSide}
 use Rattle.pmsi_model.proofs.Spreads.{start_fits}
 use Rattle.turn_bus.specs.declared.about.About.{About}
 use Rattle.turn_bus.specs.declared.view.View.{View}
-use Rattle.turn_bus.specs.Rule.{Slot, Table, IsBusAt, Knows, Absent, Holds, Kept, holds, fresh_view, one_more, new_seat, with_joined, spent_view, Opening, Ending}
+use Rattle.turn_bus.specs.Rule.{BusBox, Slot, Table, IsBusAt, Knows, Absent, Holds, Kept, holds, fresh_view, one_more, new_seat, with_joined, spent_view, Opening, Ending}
 use Rattle.turn_bus.proofs.Views.{views_stay, was, own_stays, apart, at_end, AreApart}
 use Rattle.turn_bus.proofs.TurnMoves.{here, there}
 
@@ -214,7 +213,7 @@ joins about id v other w c s r at far is =
 -- ---- the end
 
 abbrev IsHome : Table → View → Type 0
-IsHome s v = (b : BusSide) × (get_elem? s.homes 0 ≡ some (some (Some b))) × IsBusAt v.job v.keeps v.job.shape.slots b
+IsHome s v = (b : BusBox) × (get_elem? s.homes 0 ≡ some (some (Some b))) × IsBusAt v.job v.keeps v.job.shape.slots b.value
 
 closes_at : (id : ℕ) (v : View) → v.spent ≡ false → v.holding ≡ false → Ending v → (s : Table) → (r : Kept v.job v.keeps s) → get_elem? s.views id ≡ some v →
     (b : Bool) → r.held ≡ b → IsHome s v
@@ -224,7 +223,7 @@ closes_at id v alive calm end s r at false e =
     let within : r.turn ≤ v.job.shape.slots = r.turn_within in
     let t : r.turn ≡ v.job.shape.slots = omega arith in
     let home = r.free e in
-    (home.0, home.1, subst (λ n. IsBusAt v.job v.keeps n home.0) t home.2)
+    (home.0, home.1, subst (λ n. IsBusAt v.job v.keeps n home.0.value) t home.2)
 closes_at id v alive calm end s r at true e =
     let b = r.held_by e in
     let n = (r.each id v at alive).counts end.zero in
@@ -234,7 +233,7 @@ closes_at id v alive calm end s r at true e =
     (λ more. end.all_joined b.0.number (omega arith) (subst (λ (n : ℕ). b.0.number < n) (sym n.0) f.is_made) (subst (Absent b.0.number) (sym n.1) f.is_left)))
 
 pub closes : (about : About) (id : ℕ) (v : View) (ws : List ℕ) (xs : List Slot) → v.spent ≡ false → v.holding ≡ false → Ending v → Final (Seen (holds about) id v) ws xs →
-    (b : BusSide) × (get_elem? xs 0 ≡ some (Some b)) × IsBusAt v.job v.keeps v.job.shape.slots b
+    (b : BusBox) × (get_elem? xs 0 ≡ some (Some b)) × IsBusAt v.job v.keeps v.job.shape.slots b.value
 closes about id v ws xs alive calm end (s, seen, words, len, values) =
     let r : Kept v.job v.keeps s = here about s seen.0 id v seen.1 alive (λ j k. Kept j k s) seen.0 in
     let home = closes_at id v alive calm end s r seen.1 r.held refl in
@@ -246,7 +245,7 @@ only : (a : View) (j : ℕ) (v : View) → get_elem? (a ∷ []) j ≡ some v →
 only a zero v e = (refl, some-injective a v e)
 only a (suc j) v e = absurd (some-ne-none v (sym e))
 
-pub opens : (job : JobValue) (keep : Bool) (b : BusSide) (words : List ℕ) → IsJob job → IsBusAt job keep 0 b → length words ≡ gap_of (plan_of job) + 1 →
+pub opens : (job : JobValue) (keep : Bool) (b : BusBox) (words : List ℕ) → IsJob job → IsBusAt job keep 0 b.value → length words ≡ gap_of (plan_of job) + 1 →
     slice_index words 0 ≡ 0 → Kept job keep (opening words (Some b ∷ []) (fresh_view job keep 0 1))
 opens job keep b words ok bus ring begins = record {
   turn = 0;

@@ -11,13 +11,12 @@ use Rattle.pmsi_model.specs.declared.limits.TheConstants.{MAX_SLOTS}
 use Rattle.pmsi_model.specs.Job.{JobValue}
 use Rattle.pmsi_model.specs.Slots.{plan_of, owner_of_slot, gap_of}
 use Rattle.pmsi_model.specs.Run.{record_at}
-use Rattle.pmsi_model.specs.Shared.{BusSide}
 use Rattle.pmsi_model.specs.Spreads.{Fits, IsMeet, is_own, turn_after}
 use Rattle.pmsi_model.proofs.Spreads.{meets_fit}
 use Rattle.turn_bus.specs.declared.about.About.{About}
 use Rattle.turn_bus.specs.declared.view.View.{View}
 use Rattle.turn_bus.specs.ActionNumbers.{IsNumberOf}
-use Rattle.turn_bus.specs.Rule.{Slot, Table, Hand, IsBusAt, IsStored, Holds, Kept, holds, word_of_slot, has_stored, has_acted, stores, acted, IsHolding}
+use Rattle.turn_bus.specs.Rule.{BusBox, Slot, Table, Hand, IsBusAt, IsStored, Holds, Kept, holds, word_of_slot, has_stored, has_acted, stores, acted, IsHolding}
 use Rattle.turn_bus.proofs.Views.{views_stay, set_at}
 use Rattle.turn_bus.proofs.TurnMoves.{Next, Same, soon, here, there, each_moved, own_moved}
 
@@ -103,7 +102,7 @@ module _ (s : Table) (id : ℕ) (me : Hand) (r : Kept me.0.job me.0.keeps s) (ho
         refl,
       )
 
-  acts_at : (b : BusSide) → me.0.stored ≡ true → me.1 ≡ (0, Some b) ∷ [] → IsBusAt me.0.job me.0.keeps (me.0.count + 1) b →
+  acts_at : (b : BusBox) → me.0.stored ≡ true → me.1 ≡ (0, Some b) ∷ [] → IsBusAt me.0.job me.0.keeps (me.0.count + 1) b.value →
       Next me.0.job me.0.keeps s 0 ((slice_index s.words 0 + 1) % 2 ^ 64) id me (λ _ m'. m' ≡ (has_acted me.0, rest me.1))
   acts_at b has carries bus =
       let job : JobValue = me.0.job in
@@ -148,7 +147,7 @@ module _ (s : Table) (id : ℕ) (me : Hand) (r : Kept me.0.job me.0.keeps s) (ho
           records = λ j below near. subst (λ (n : ℕ). IsNumberOf n (record_at job j)) (sym (same_words j)) (dite (ℕ_discrete j r.turn)
               (λ last. subst (λ (n : ℕ). IsStored job n s.words) (sym last) (held.record_is has))
               (λ earlier. r.records j (omega arith) (omega arith)));
-          free = λ _. (b, ap (λ l. get_elem? l 0) back ∙ set_here s.homes 0 (some slot) (omega arith), subst (λ (n : ℕ). IsBusAt job me.0.keeps (n + 1) b) now bus);
+          free = λ _. (b, ap (λ l. get_elem? l 0) back ∙ set_here s.homes 0 (some slot) (omega arith), subst (λ (n : ℕ). IsBusAt job me.0.keeps (n + 1) b.value) now bus);
           each = each_moved job me.0.keeps s r id me.0 w at live same (r.turn + 1) (omega arith) (subst (Fits job me.0.number (me.0.count + 1)) after fit.0) (omega arith) others;
           unmade = λ c from. let made : me.0.number < r.made = k.is_made in others c 0 (λ same. absurd (omega arith)) (r.unmade c from);
           own = own_moved job me.0.keeps s r id me.0 w at live same;
@@ -169,8 +168,8 @@ stores_record about slots id me i new place holding live is =
     (λ s r _ at _. there about s r id me.0 at live (λ j k. Next j k s (word_of_slot (plan_of me.0.job) me.0.count) new id me (λ _ m'. m' ≡ (has_stored me.0, me.1)))
     (stores_at s id me (here about s r id me.0 at live (λ j k. Kept j k s) r) holding live at new is))
 
-pub acts : (about : About) (slots id : ℕ) (me : Hand) (b : BusSide) → me.0.holding ≡ true → me.0.spent ≡ false → me.0.stored ≡ true → me.1 ≡ (0, Some b) ∷ [] →
-    IsBusAt me.0.job me.0.keeps (me.0.count + 1) b → Allows (holds about) slots id me 0 (λ n. (n + 1) % 2 ^ 64) (acted (step slots 0 1 0 none) me)
+pub acts : (about : About) (slots id : ℕ) (me : Hand) (b : BusBox) → me.0.holding ≡ true → me.0.spent ≡ false → me.0.stored ≡ true → me.1 ≡ (0, Some b) ∷ [] →
+    IsBusAt me.0.job me.0.keeps (me.0.count + 1) b.value → Allows (holds about) slots id me 0 (λ n. (n + 1) % 2 ^ 64) (acted (step slots 0 1 0 none) me)
 acts about slots id me b holding live has carries bus s r _ at _ =
     there about s r id me.0 at live (λ j k. Next j k s 0 ((slice_index s.words 0 + 1) % 2 ^ 64) id me (λ _ m'. m' ≡ (has_acted me.0, rest me.1)))
     (acts_at s id me (here about s r id me.0 at live (λ j k. Kept j k s) r) holding live at b has carries bus)
@@ -178,21 +177,21 @@ acts about slots id me b holding live has carries bus s r _ at _ =
 -- ---- the seat, from one step to the next
 
 -- with the bus in its hand, to be put back
-put_in : (m m' : Hand) (bus : BusSide) → m' ≡ (m.0, (0, Some bus) ∷ rest m.1) → m.1 ≡ (0, None) ∷ [] → m' ≡ (m.0, (0, Some bus) ∷ [])
+put_in : (m m' : Hand) (bus : BusBox) → m' ≡ (m.0, (0, Some bus) ∷ rest m.1) → m.1 ≡ (0, None) ∷ [] → m' ≡ (m.0, (0, Some bus) ∷ [])
 put_in m m' bus e carries = e ∙ ap (λ (l : List (ℕ × Slot)). let h : Hand = (m.0, (0, Some bus) ∷ rest l) in h) carries
 
-pub can_store : (m m' : Hand) (bus : BusSide) (word new : ℕ) → m' ≡ (m.0, (0, Some bus) ∷ rest m.1) → IsHolding m → word ≡ word_of_slot (plan_of m.0.job) m.0.count →
+pub can_store : (m m' : Hand) (bus : BusBox) (word new : ℕ) → m' ≡ (m.0, (0, Some bus) ∷ rest m.1) → IsHolding m → word ≡ word_of_slot (plan_of m.0.job) m.0.count →
     IsNumberOf new (record_at m.0.job m.0.count) →
     (word ≡ word_of_slot (plan_of m'.0.job) m'.0.count) × (m'.0.holding ≡ true) × (m'.0.spent ≡ false) × IsNumberOf new (record_at m'.0.job m'.0.count)
 can_store m m' bus word new e has place is =
     subst (λ (h : Hand). (word ≡ word_of_slot (plan_of h.0.job) h.0.count) × (h.0.holding ≡ true) × (h.0.spent ≡ false) × IsNumberOf new (record_at h.0.job h.0.count)) (sym e)
     (place, has.holding, has.live, is)
 
-pub stored_is : (m m' m'' : Hand) (bus : BusSide) → m' ≡ (m.0, (0, Some bus) ∷ rest m.1) → m'' ≡ (has_stored m'.0, m'.1) → IsHolding m → m'' ≡ (has_stored m.0, (0, Some bus) ∷ [])
+pub stored_is : (m m' m'' : Hand) (bus : BusBox) → m' ≡ (m.0, (0, Some bus) ∷ rest m.1) → m'' ≡ (has_stored m'.0, m'.1) → IsHolding m → m'' ≡ (has_stored m.0, (0, Some bus) ∷ [])
 stored_is m m' m'' bus e after has = after ∙ ap (λ (h : Hand). let x : Hand = (has_stored h.0, h.1) in x) (put_in m m' bus e has.carries)
 
-pub can_act : (m m'' : Hand) (bus : BusSide) → m'' ≡ (has_stored m.0, (0, Some bus) ∷ []) → IsHolding m → IsBusAt m.0.job m.0.keeps (m.0.count + 1) bus →
-    (m''.0.holding ≡ true) × (m''.0.spent ≡ false) × (m''.0.stored ≡ true) × (m''.1 ≡ (0, Some bus) ∷ []) × IsBusAt m''.0.job m''.0.keeps (m''.0.count + 1) bus
+pub can_act : (m m'' : Hand) (bus : BusBox) → m'' ≡ (has_stored m.0, (0, Some bus) ∷ []) → IsHolding m → IsBusAt m.0.job m.0.keeps (m.0.count + 1) bus.value →
+    (m''.0.holding ≡ true) × (m''.0.spent ≡ false) × (m''.0.stored ≡ true) × (m''.1 ≡ (0, Some bus) ∷ []) × IsBusAt m''.0.job m''.0.keeps (m''.0.count + 1) bus.value
 can_act m m'' bus is has at =
-    subst (λ (h : Hand). (h.0.holding ≡ true) × (h.0.spent ≡ false) × (h.0.stored ≡ true) × (h.1 ≡ (0, Some bus) ∷ []) × IsBusAt h.0.job h.0.keeps (h.0.count + 1) bus) (sym is)
+    subst (λ (h : Hand). (h.0.holding ≡ true) × (h.0.spent ≡ false) × (h.0.stored ≡ true) × (h.1 ≡ (0, Some bus) ∷ []) × IsBusAt h.0.job h.0.keeps (h.0.count + 1) bus.value) (sym is)
     (has.holding, has.live, refl, refl, at)

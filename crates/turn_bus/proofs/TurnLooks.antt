@@ -6,12 +6,11 @@ use lib.Seq.{set-get_or}
 use Rattle.atomic_table.specs.Table.{step, keeps, takes, Allows, rest}
 use Rattle.pmsi_model.specs.Job.{JobValue}
 use Rattle.pmsi_model.specs.Slots.{plan_of, owner_of_slot}
-use Rattle.pmsi_model.specs.Shared.{BusSide}
 use Rattle.pmsi_model.specs.Spreads.{Fits}
 use Rattle.pmsi_model.proofs.Spreads.{own_turn}
 use Rattle.turn_bus.specs.declared.about.About.{About}
 use Rattle.turn_bus.specs.declared.view.View.{View}
-use Rattle.turn_bus.specs.Rule.{Slot, Table, Hand, IsBusAt, Holds, Kept, holds, word_of_slot, has_loaded, has_noted, has_bus, looked, noted, taken, Rests}
+use Rattle.turn_bus.specs.Rule.{BusBox, Slot, Table, Hand, IsBusAt, Holds, Kept, holds, word_of_slot, has_loaded, has_noted, has_bus, looked, noted, taken, Rests}
 use Rattle.turn_bus.proofs.Views.{views_stay, set_at, apart}
 use Rattle.turn_bus.proofs.TurnMoves.{Next, Same, soon, here, there, each_moved, own_moved, only_looks}
 
@@ -103,7 +102,7 @@ module _ (s : Table) (id : ℕ) (me : Hand) (r : Kept me.0.job me.0.keeps s) (re
                 (λ j x _ e h. let t = r.holds_one j x e h in let bad : false ≡ true = sym calm ∙ t.0 in cc);
             held_by = λ _. (w, set_at s.views id me.0 w at, refl, rests.live);
           },
-          (home.0, refl, subst (λ (n : ℕ). IsBusAt job me.0.keeps n home.0) now home.2),
+          (home.0, refl, subst (λ (n : ℕ). IsBusAt job me.0.keeps n home.0.value) now home.2),
         )
 
 -- ---- and at the table's
@@ -134,7 +133,7 @@ passed_on m m' turn word is rests place past = subst (λ (h : Hand). (word ≡ w
 
 -- the slot with the bus, as the seat took it
 abbrev pub HasTaken : Hand → Hand → Type 0
-HasTaken m m' = (b : BusSide) × (m' ≡ (has_bus m.0, (0, Some b) ∷ m.1)) × IsBusAt m.0.job m.0.keeps m.0.count b
+HasTaken m m' = (b : BusBox) × (m' ≡ (has_bus m.0, (0, Some b) ∷ m.1)) × IsBusAt m.0.job m.0.keeps m.0.count b.value
 
 pub slot_of : (m m' : Hand) → HasTaken m m' → (x : Slot) × (m'.1 ≡ (0, x) ∷ rest m'.1)
 slot_of m m' t = (Some t.0, subst (λ (h : Hand). h.1 ≡ (0, Some t.0) ∷ rest h.1) (sym t.1) refl)

@@ -1,7 +1,8 @@
 -- The rule that holds between any two atomic steps, over the turn, the records, the bus, and what the seats know.
 -- Word 0 is the turn, the slot at which the bus stands. The other words are a ring as long as the plan's greatest gap: the
 -- record of a slot is stored in one of them, as a number.
-use Rattle.std.specs.Prelude.{◌≡◌, ◌≢◌, ℕ, ◌+◌, ◌%◌, ◌<◌, ◌≤◌, List, [], ◌∷◌, Bool, true, false, length, slice_index, Option, Some, None}
+use Rattle.std.specs.Prelude.{◌≡◌, ◌≢◌, ℕ, ◌+◌, ◌%◌, ◌<◌, ◌≤◌, List, [], ◌∷◌, Bool, true, false, length, slice_index, Option, Some, None, Box}
+use Rattle.std.specs.declared.alloc.Global.{Global}
 use mathlib.Core.Option.{some}
 use lib.ListN.{get_elem?}
 use Rattle.atomic_table.specs.Table.{State, Me, Step, rest}
@@ -15,9 +16,13 @@ use Rattle.turn_bus.specs.declared.about.About.{About}
 use Rattle.turn_bus.specs.declared.view.View.{View}
 use Rattle.turn_bus.specs.ActionNumbers.{IsNumberOf}
 
+-- a bus, by its pointer
+abbrev pub BusBox : Type 0
+BusBox = Box BusSide Global
+
 -- what lies in the table's one slot: the bus, or nothing while a seat has it
 abbrev pub Slot : Type 0
-Slot = Option BusSide
+Slot = Option BusBox
 
 abbrev pub Table : Type 0
 Table = State Slot View
@@ -79,7 +84,7 @@ pub record Kept (job : JobValue) (keeps : Bool) (s : Table) : Type 0 where
   -- the records of the last slots, one slot fewer than the ring is long: the word of the slot of the turn is being written
   pub records : (j : ℕ) → j < turn → turn < j + gap_of (plan_of job) → IsStored job j s.words
   -- while no seat has it, the bus of the job lies in the slot, at its turn
-  pub free : held ≡ false → (b : BusSide) × (get_elem? s.homes 0 ≡ some (some (Some b))) × IsBusAt job keeps turn b
+  pub free : held ≡ false → (b : BusBox) × (get_elem? s.homes 0 ≡ some (some (Some b))) × IsBusAt job keeps turn b.value
   -- each seat, and each core whose seat isn't made yet, fits the bus; no two seats are of one core
   pub each : (j : ℕ) (v : View) → get_elem? s.views j ≡ some v → v.spent ≡ false → Knows job keeps turn made joined v
   pub unmade : (c : ℕ) → made ≤ c → Fits job c 0 turn
@@ -162,7 +167,7 @@ noted st m found m' = (m' ≡ (has_noted m.0, m.1)) × IsNumberOf found (record_
 
 -- the bus, at the seat's slot
 abbrev pub taken : Step Slot → Hand → ℕ → Hand → Type 0
-taken st m found m' = (b : BusSide) × (m' ≡ (has_bus m.0, (0, Some b) ∷ m.1)) × IsBusAt m.0.job m.0.keeps m.0.count b
+taken st m found m' = (b : BusBox) × (m' ≡ (has_bus m.0, (0, Some b) ∷ m.1)) × IsBusAt m.0.job m.0.keeps m.0.count b.value
 
 abbrev pub stores : Step Slot → Hand → ℕ → Hand → Type 0
 stores st m found m' = m' ≡ (has_stored m.0, m.1)

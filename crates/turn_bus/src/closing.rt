@@ -35,7 +35,7 @@ impl TurnBus {
         let value = closed.take(0);
         closed.free();
         let Some(bus) = value else { unreachable!() };
-        bus
+        Box::into_inner(bus)
     }
 
     /// The bus after the last slot, from its own seats, all of them, each after the last slot. It takes no memory.

@@ -7,7 +7,7 @@ ghost use Rattle.turn_bus.specs.Rule.{IsBusAt, Opening, first_of, one_more, new_
 ghost use Rattle.turn_bus.specs.Seats.{AreSeats, IsOwn, view_of};
 
 use crate::about::{About, copy_of};
-use crate::rule::{Opens, Turning};
+use crate::rule::{Lying, Opens, Turning};
 use crate::seat::{Chair, TurnBus, TurnSeat};
 use crate::view::View;
 use atomic_table::{Refused, Table};
@@ -16,7 +16,7 @@ use pmsi_model::{Job, NoMemory};
 use slot_plan::gap;
 use std::alloc::Global;
 
-type Opened = (Table<Option<Bus>, View, About, Turning, Global>, Chair);
+type Opened = (Table<Lying, View, About, Turning, Global>, Chair);
 
 /// A table of the turn, the ring of records, and one slot, in which the bus lies.
 fn lay(alloc: Global, bus: Bus, about: &About) -> Result<Opened, NoMemory>
@@ -25,8 +25,9 @@ fn lay(alloc: Global, bus: Bus, about: &About) -> Result<Opened, NoMemory>
     ensures seat { IfOk result (λ t. (t.1.table_id ≡ t.0.shared.table_id) × (t.1.me ≡ (first_of about.now, []))) }
 {
     let words = vec![in alloc; 0; gap(bus.table()) as usize + 1]?;
+    let lying = Box::new(alloc, bus)?;
     let mut slots = Vec::with_capacity(alloc, 1)?;
-    slots.push_reserved(Some(bus));
+    slots.push_reserved(Some(lying));
     match Table::new(alloc, &words, slots, about) {
         Ok(made) => Ok(made),
         Err(Refused { slots: _ }) => Err(NoMemory),

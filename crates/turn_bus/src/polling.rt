@@ -55,7 +55,7 @@ fn look(place: &Place, chair: &mut Chair, plan: &SlotTable, slot: u32) -> Poll
 }
 
 /// One load of the turn, which stands at the seat's own slot, and the bus.
-fn take(place: &Place, chair: &mut Chair) -> Bus
+fn take(place: &Place, chair: &mut Chair) -> Box<Bus>
     requires table { (chair.old.table_id ≡ place.now.table_id) × (place.now.table_id.slots ≡ 1) }
     requires some { 0 < place.now.table_id.words }
     requires rests { Rests chair.old.me }
@@ -63,7 +63,7 @@ fn take(place: &Place, chair: &mut Chair) -> Bus
     requires own { OwnsSlot chair.old.me.0 }
     ensures table { (chair.new.table_id ≡ chair.old.table_id) × (chair.new.id ≡ chair.old.id) }
     ensures seat { chair.new.me ≡ (has_bus chair.old.me.0, (0, None) ∷ []) }
-    ensures bus { IsBusAt chair.old.me.0.job chair.old.me.0.keeps chair.old.me.0.count result }
+    ensures bus { IsBusAt chair.old.me.0.job chair.old.me.0.keeps chair.old.me.0.count result.value }
 {
     place.load::<Takes>(chair, 0);
     let Some(bus) = place.exchange(chair, 0, None) else {
@@ -73,13 +73,13 @@ fn take(place: &Place, chair: &mut Chair) -> Bus
 }
 
 /// Puts the bus back after the action of the seat's slot, stores the record, and lets the turn go on.
-fn give(place: &Place, chair: &mut Chair, bus: Bus, action: Action, word: usize)
+fn give(place: &Place, chair: &mut Chair, bus: Box<Bus>, action: Action, word: usize)
     requires table { (chair.old.table_id ≡ place.now.table_id) × (place.now.table_id.slots ≡ 1) }
     requires word { word ≡ word_of_slot (plan_of chair.old.me.0.job) chair.old.me.0.count }
     requires within { word < place.now.table_id.words }
     requires seat { IsHolding chair.old.me }
     requires action { action ≡ record_at chair.old.me.0.job chair.old.me.0.count }
-    requires bus { IsBusAt chair.old.me.0.job chair.old.me.0.keeps (chair.old.me.0.count + 1) bus }
+    requires bus { IsBusAt chair.old.me.0.job chair.old.me.0.keeps (chair.old.me.0.count + 1) bus.value }
     ensures table { (chair.new.table_id ≡ chair.old.table_id) × (chair.new.id ≡ chair.old.id) }
     ensures seat { chair.new.me ≡ (has_acted (has_stored chair.old.me.0), []) }
 {
@@ -105,7 +105,7 @@ fn act_chair(place: &Place, chair: &mut Chair, core: &mut Core, word: usize) -> 
     ensures answer { HasActed chair.old.me.0 chair.new.me.0 result core.new }
 {
     let mut bus = take(place, chair);
-    let action = core.act(&mut bus);
+    let action = core.act(&mut *bus);
     give(place, chair, bus, action, word);
     action
 }

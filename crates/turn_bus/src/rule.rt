@@ -6,9 +6,12 @@ use crate::view::View;
 use atomic_table::{Join, Play, Split, TableRule};
 use bus_core::Bus;
 
+/// What lies in the table's one slot: the bus, or nothing while a seat has it.
+pub type Lying = Option<Box<Bus>>;
+
 pub struct Turning;
 
-impl TableRule<Option<Bus>, View, About> for Turning {
+impl TableRule<Lying, View, About> for Turning {
     ghost holds = { holds };
 
     ghost first = { first_of };
@@ -17,35 +20,35 @@ impl TableRule<Option<Bus>, View, About> for Turning {
 /// A load of the turn.
 pub struct Looks;
 
-impl Play<Option<Bus>, View> for Looks {
+impl Play<Lying, View> for Looks {
     ghost then = { looked };
 }
 
 /// A load of the record of the seat's slot, which the bus has passed: the slot is over.
 pub struct Notes;
 
-impl Play<Option<Bus>, View> for Notes {
+impl Play<Lying, View> for Notes {
     ghost then = { noted };
 }
 
 /// A load of the turn by the owner of its slot, which has the bus from then on.
 pub struct Takes;
 
-impl Play<Option<Bus>, View> for Takes {
+impl Play<Lying, View> for Takes {
     ghost then = { taken };
 }
 
 /// The record of the slot is stored by its owner.
 pub struct Stores;
 
-impl Play<Option<Bus>, View> for Stores {
+impl Play<Lying, View> for Stores {
     ghost then = { stores };
 }
 
 /// The turn goes on, and the bus lies in its place again: the slot is over.
 pub struct Acts;
 
-impl Play<Option<Bus>, View> for Acts {
+impl Play<Lying, View> for Acts {
     ghost then = { acted };
 }
 

@@ -5,22 +5,21 @@ ghost use Rattle.pmsi_model.specs.Slots.{gap_of};
 ghost use Rattle.turn_bus.specs.Rule.{Rests};
 
 use crate::about::About;
-use crate::rule::Turning;
+use crate::rule::{Lying, Turning};
 use crate::view::View;
 use atomic_table::{Seat, Table};
-use bus_core::Bus;
 use pmsi_model::SlotTable;
 use std::alloc::Global;
 
-pub(crate) type Chair = Seat<Option<Bus>, View>;
+pub(crate) type Chair = Seat<Lying, View>;
 
-pub(crate) type Place = atomic_table::Shared<Option<Bus>, View, About, Turning>;
+pub(crate) type Place = atomic_table::Shared<Lying, View, About, Turning>;
 
 /// A bus that any number of threads reach: one word is its turn, the slot at which it stands, and a ring of words has the
 /// records of the last slots.
 #[derive(Drop)]
 pub struct TurnBus {
-    pub(crate) table: Table<Option<Bus>, View, About, Turning, Global>,
+    pub(crate) table: Table<Lying, View, About, Turning, Global>,
     pub(crate) plan: SlotTable,
     ghost sized: { (table.shared.table_id.words ≡ gap_of plan + 1) × (table.shared.table_id.slots ≡ 1) },
 }

@@ -1,13 +1,12 @@
-use Rattle.std.proofs.Common.{◌≡◌, Some, sym, ◌∙◌, subst}
+use Rattle.std.proofs.Common.{◌≡◌, Some, sym, ap, ◌∙◌, subst}
 use mathlib.Core.Option.{some-injective}
-use Rattle.pmsi_model.specs.Shared.{BusSide}
-use Rattle.turn_bus.specs.Rule.{IsBusAt}
+use Rattle.turn_bus.specs.Rule.{BusBox, IsBusAt}
 use Rattle.turn_bus.specs.Seats.{view_of}
 use Rattle.turn_bus.proofs.SeatLists.{closes}
 use Rattle.turn_bus.proofs.seat.TurnBus.end.Goals as goal
 use Rattle.turn_bus.proofs.seat.TurnBus.end.Goals.{After-take-value}
 
-value_is : (c : After-take-value) → (b : BusSide) × (c.take-value.result ≡ Some b) × IsBusAt (view_of c.args.root).job (view_of c.args.root).keeps (view_of c.args.root).job.shape.slots b
+value_is : (c : After-take-value) → (b : BusBox) × (c.take-value.result ≡ Some b) × IsBusAt (view_of c.args.root).job (view_of c.args.root).keeps (view_of c.args.root).job.shape.slots b.value
 value_is c = let rests = c.args.root.rests in let e = closes _ _ (view_of c.args.root) _ _ rests.live rests.idle c.requires.ending c.close_with-closed.ensures.values.2 in
     (e.0, some-injective _ _ (sym c.take-value.ensures.value ∙ e.1), e.2)
 
@@ -16,4 +15,6 @@ unreachable-requires c = let v = value_is (goal.at.unreachable-requires c).After
 
 pub returns : goal.returns
 returns c = let v = value_is (goal.at.returns c).After-take-value in let e = sym c.in-Some.is ∙ v.1 in
-    let same : c.in-Some.bus ≡ v.0 = cc in subst (IsBusAt (view_of c.args.root).job (view_of c.args.root).keeps (view_of c.args.root).job.shape.slots) (sym same) v.2
+    let lies : c.in-Some.bus ≡ v.0 = cc in
+    let same = c.into_inner.ensures ∙ ap (λ (b : BusBox). b.value) lies in
+    subst (IsBusAt (view_of c.args.root).job (view_of c.args.root).keeps (view_of c.args.root).job.shape.slots) (sym same) v.2
