@@ -5,6 +5,3 @@ mod bus;
 pub mod laws;
 
 pub use bus::Bus;
-
-#[cfg(test)]
-mod tests;

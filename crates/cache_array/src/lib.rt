@@ -12,6 +12,3 @@ mod places;
 pub use address::line_of;
 pub use cache::{CacheArray, Found};
 pub use line::{CachedLine, CachedWords};
-
-#[cfg(test)]
-mod tests;

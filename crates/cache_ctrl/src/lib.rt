@@ -5,8 +5,6 @@ ghost use Rattle.std.specs.Prelude.{◌≡◌, ◌≢◌, Some, None};
 ghost use Rattle.cache_ctrl.specs.Table.{next_of};
 
 mod states;
-#[cfg(test)]
-mod tests;
 
 use pmsi_model::State;
 pub use states::{LineState, LineStates, STATES_ROOM};

@@ -3,7 +3,5 @@
 #![tactic(auto)]
 
 mod lines;
-#[cfg(test)]
-mod tests;
 
 pub use lines::{push_core_line, push_held_line, push_regs_line};

@@ -30,5 +30,4 @@ mod ActsRows
 mod ActsNeeds
 mod ActsSlots
 mod Told
-mod TestJobs
 pub mod Exports

@@ -15,7 +15,7 @@ use Rattle.core_unit.specs.Changes.{state_name}
 use Rattle.core_unit.specs.State.{core_of}
 use Rattle.core_unit.specs.Parts.{IsPart, IsPartAfter}
 
--- two cores agree in all that a caller can read: registers, pc, status, counts, want, lines and modes are in `core`
+-- two cores agree in all that a caller can read but the ways in which lines stand: registers, pc, status, counts, want, lines and modes are in `core`
 pub record ReadAlike (u v : State) : Type 0 where
   pub number : u.number ≡ v.number
   pub shape : u.shape ≡ v.shape

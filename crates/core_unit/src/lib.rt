@@ -11,8 +11,6 @@ mod reserved;
 mod retire;
 mod snoop;
 mod state;
-#[cfg(test)]
-mod tests;
 mod unit;
 
 pub use opening::open_cores;

@@ -8,8 +8,6 @@ ghost use Rattle.pmsi_model.specs.Slots.{bound_of, plan_of};
 ghost use Rattle.pmsi_model.specs.Waiting.{slots_left};
 ghost use Rattle.sim_serial.specs.Sims.{IsSimOf, shape_of};
 
-#[cfg(test)]
-mod tests;
 mod waits;
 
 use crate::waits::{posted_left, unposted_left};

@@ -9,6 +9,3 @@ mod stamps;
 mod words;
 
 pub use memory::SharedMemory;
-
-#[cfg(test)]
-mod tests;

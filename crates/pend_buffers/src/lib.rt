@@ -15,6 +15,3 @@ pub enum Choice {
     /// The first line of its write-back queue is written back.
     Back,
 }
-
-#[cfg(test)]
-mod tests;

@@ -296,3 +296,15 @@ fn sixteen_cores_count(rt: HostRuntime) -> Result<(), Fail> {
     assert_eq!(rt; sim.word(0), 16);
     Ok(())
 }
+
+fn sends<T: Send>(_value: &T) {}
+
+/// A core and a bus can be handed to another thread.
+#[test]
+fn cores_and_buses_can_be_sent(rt: HostRuntime) -> Result<(), Fail> {
+    let alloc = rt.alloc();
+    let sim = open(&rt, alloc, small(2, 1, 6), alike(alloc, &WRITES_7, 2)?)?;
+    sends(sim.core(0));
+    sends(sim.bus());
+    Ok(())
+}

@@ -68,6 +68,3 @@ pub fn count_own(table: &SlotTable, core: u32, slots: u32) -> u32
     }
     count
 }
-
-#[cfg(test)]
-mod tests;

@@ -10,6 +10,3 @@ pub use pieces::{
     push_field, push_hex, push_hex_byte, push_hex_bytes, push_hex_field, push_newline, push_number,
     push_signed, push_text,
 };
-
-#[cfg(test)]
-mod tests;
