@@ -133,10 +133,10 @@ fn same(rt: &impl Abort, a: &Sim, b: &Sim) {
     }
 }
 
-/// A shape of two to sixteen cores.
+/// A shape of two to sixteen cores, which has sixteen in half of all draws.
 fn some_shape(dice: &mut Dice) -> Geometry {
     Geometry {
-        cores: 2 + dice.below(15),
+        cores: (2 + dice.below(29)).min(16),
         quantum: 1 + dice.below(6),
         line_words: 4,
         sets: 1 + dice.below(2),
@@ -176,12 +176,12 @@ fn runs_alike<R: Abort + Threads + Wait + Sync>(
 
 #[test]
 fn threads_reach_the_machine_of_one(rt: HostRuntime) -> Result<(), Fail> {
-    for seed in 0..300 {
+    for seed in 0..60 {
         let mut dice = Dice { state: seed };
         let shape = some_shape(&mut dice);
         let texts = texts(rt.alloc(), &mut dice, shape.cores)?;
         let job = job(&rt, rt.alloc(), shape, texts)?;
-        runs_alike(&rt, rt.alloc(), &job, 1 + dice.below(4))?;
+        runs_alike(&rt, rt.alloc(), &job, 1 + dice.below(16))?;
     }
     Ok(())
 }
