@@ -101,10 +101,10 @@ fn push_piece(
     ensures { OnOk result ((out.new.items ≡ out.old.items ++ piece_text piece slot rest.old) × (rest.new ≡ past_piece piece slot rest.old)) }
 {
     match piece {
-        Piece::Row => {
-            let count = rest.fills(slot);
-            push_row_lines(out, rest.take_rows(count))
-        }
+        Piece::Row => match rest.fills(slot) {
+            0 => Ok(()),
+            count => push_row_lines(out, rest.take_rows(count)),
+        },
         Piece::Phase => {
             let count = rest.phase_count(slot);
             push_touch_lines(out, rest.take_touches(count))
