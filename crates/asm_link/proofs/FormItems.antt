@@ -6,7 +6,7 @@ use Rattle.pmsi_model.specs.declared.instr.Instr.{Instr}
 use Rattle.asm_operands.specs.Numbers.{fence_set, register_named, weight_of, weights_behind, with_weight}
 use Rattle.asm_operands.specs.Operands.{Expr, Imm, Lexeme, Took, Taken, Stuck, ends, fences_if, register_if, take_base, take_constant, take_e, take_expr, take_fences, take_ff, take_imm, take_in_parentheses, take_kind, take_memory, take_next, take_one, take_pair, take_r, take_rc, take_re, take_register, take_ri, take_rm, take_rr, take_rrb, take_rre, take_rri, take_rrr, then_take, took_if, zero_if}
 use Rattle.asm_operands.specs.declared.token.TokenKind.TheVariants.{Open, Close, Comma}
-use Rattle.asm_operands.proofs.Registers.{is_small}
+use Rattle.asm_operands.proofs.Exports.{is_small}
 use Rattle.asm_parse.specs.Assembly.{IsWordOf, code_bytes}
 use Rattle.asm_parse.specs.Items.{is_ready}
 use Rattle.asm_parse.specs.Mnemonics.{Code, Instruction, Item, Known, Numbered, Distant, Form, form_e, form_ff, form_r, form_rc, form_re, form_ri, form_rm, form_rr, form_rrb, form_rre, form_rri, form_rrr, further, gives, no_operands, take_forms}

@@ -24,3 +24,4 @@ pub mod FormTables
 pub mod LineItems
 pub mod Faultless
 pub mod HasImage
+pub mod Exports

@@ -8,7 +8,7 @@ use Rattle.asm_parse.specs.declared.fault.AsmFault.{AsmFault}
 use Rattle.asm_parse.specs.declared.fault.AsmFault.TheVariants.{At, NoMemory}
 use Rattle.asm_parse.specs.Assembly.{HasAsmFault, IsAssembled, IsWordOf, asm_fault, text_of}
 use Rattle.asm_link.specs.Laws.{AssemblesOnce, ImagesHaveNoFault}
-use Rattle.rv_decode.proofs.Rows.{encoding_back}
+use Rattle.rv_decode.proofs.Exports.{encoding_back}
 use Rattle.asm_link.proofs.SamePieces.{same_pieces}
 
 same_words : (codes : List Code) (words others : List ℕ) → AllZip IsWordOf codes words → AllZip IsWordOf codes others → words ≡ others

@@ -9,7 +9,7 @@ use Rattle.pmsi_model.specs.Words.{word_of}
 use Rattle.asm_parse.specs.Mnemonics.{reaches}
 use Rattle.asm_parse.specs.Items.{is_ready}
 use Rattle.rv_decode.specs.Ranges.{IsInRange}
-use Rattle.rv_decode.proofs.Encoded.{has_row}
+use Rattle.rv_decode.proofs.Exports.{has_row}
 use Rattle.asm_link.specs.Resolved.{AreRegs}
 
 -- an even distance within reach is an even word

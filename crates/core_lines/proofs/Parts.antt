@@ -7,7 +7,7 @@ use Rattle.std.proofs.lemmas.List.Concat.{flat_map-append}
 use Rattle.pmsi_model.specs.declared.Mode.{Mode}
 use Rattle.pmsi_model.specs.Lines.{held_text, held_line, reg_texts}
 use Rattle.core_lines.specs.Regs.{reg_text}
-use Rattle.text_out.proofs.Grown.{grown, IsByPlaces, further}
+use Rattle.text_out.proofs.Exports.{grown, IsByPlaces, further}
 
 -- ---- registers
 

@@ -27,3 +27,4 @@ pub mod SayingLists
 pub mod Searches
 pub mod WholeTexts
 pub mod WordFields
+pub mod Exports

@@ -9,7 +9,7 @@ use Rattle.pmsi_model.specs.Waiting.{place_of}
 use Rattle.pmsi_model.proofs.Owners.{owner_mode}
 use Rattle.pmsi_model.proofs.Requests.{first_request, request_core, request_queued}
 use Rattle.pend_buffers.specs.Pending.{place_in}
-use Rattle.memory_lut.proofs.Keeps.{all_request}
+use Rattle.memory_lut.proofs.Exports.{all_request}
 
 -- the place of a line that waits
 pub place_is : (line : ℕ) (lines : List ℕ) → has_line line lines ≡ true → place_in line lines ≡ Some (place_of line lines)

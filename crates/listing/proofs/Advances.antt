@@ -3,7 +3,7 @@ use Rattle.std.proofs.Common.{◌≡◌, ℕ, zero, suc, ◌+◌, ◌<◌, ◌�
 use Rattle.std.specs.List.{flat_map}
 use Rattle.std.proofs.lemmas.List.{take_all, take_more}
 use Rattle.std.proofs.lemmas.List.Concat.{flat_map-append}
-use Rattle.text_out.proofs.Grown.{grown}
+use Rattle.text_out.proofs.Exports.{grown}
 
 -- the first `count` items are changed
 abbrev pub advanced : {X : Type 0} → (X → X) → ℕ → List X → List X

@@ -11,7 +11,7 @@ use Rattle.pmsi_model.specs.Listing.{core_text, core_texts, memory_texts, waits_
 use Rattle.pmsi_model.specs.Rows.{rows_of, open_rows_in}
 use Rattle.pmsi_model.specs.Machine.{CoreState, Machine}
 use Rattle.pmsi_model.specs.Run.{machine_at}
-use Rattle.text_out.proofs.Grown.{grown}
+use Rattle.text_out.proofs.Exports.{grown}
 
 -- ---- the listing
 

@@ -13,7 +13,7 @@ use Rattle.pmsi_model.specs.Phase.{phases_touches, touches_by}
 use Rattle.pmsi_model.specs.Rows.{slot_rows, rows_of}
 use Rattle.pmsi_model.specs.Run.{action_touch, after_phases, machine_at, record_at, slot_owner, slot_touches, touches_of}
 use Rattle.pmsi_model.proofs.Boundaries.{machine_at-slot, next_rows, next_touches, phases-slot}
-use Rattle.text_out.proofs.Grown.{grown}
+use Rattle.text_out.proofs.Exports.{grown}
 use Rattle.coherence_laws.proofs.Exports.{touches_by-append}
 use Rattle.listing.specs.declared.rests.Piece.TheVariants.{Row as RowPiece, Phase, Fill as FillPiece}
 use Rattle.listing.specs.Rests.{RestValue, each, fills, phase_count, rest_at, rests_at, rows_from, touches_from}

@@ -5,7 +5,7 @@ use Rattle.pmsi_model.specs.declared.Action.{Action}
 use Rattle.pmsi_model.specs.declared.Touch.{Touch}
 use Rattle.pmsi_model.specs.Slots.{SlotPlan, owner_of_slot}
 use Rattle.pmsi_model.specs.Lines.{hex_word, hex_bytes, memory_line, kind_text, touch_line, action_line, action_lines}
-use Rattle.text_out.proofs.Grown.{grown}
+use Rattle.text_out.proofs.Exports.{grown}
 
 -- the five parts of a line of memory
 five : (old a b c d e one two three : List ℕ) → one ≡ old ++ a ++ b → two ≡ one ++ c → three ≡ two ++ d → three ++ e ≡ old ++ (a ++ b ++ c ++ d ++ e)

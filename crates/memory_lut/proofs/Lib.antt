@@ -3,3 +3,4 @@ pub mod Searches
 pub mod Entries
 pub mod Renewal
 pub mod Keeps
+pub mod Exports

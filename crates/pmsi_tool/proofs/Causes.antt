@@ -4,8 +4,8 @@ use Rattle.std.specs.Prelude.{Option, Some, None, IsSome, unwrap_or, ⊤, Result
 use Rattle.pmsi_model.specs.Job.{JobValue, IsJob}
 use Rattle.pmsi_outside.specs.Files.{Contents}
 use Rattle.coherence_laws.proofs.Exports.{stays_coherent}
-use Rattle.latest_laws.proofs.Runs.{always_reads_latest}
-use Rattle.waiting_laws.proofs.Slots.{always_bounded}
+use Rattle.latest_laws.proofs.Exports.{always_reads_latest}
+use Rattle.waiting_laws.proofs.Exports.{always_bounded}
 use Rattle.tool_words.specs.Meaning.{AskedValue, meaning}
 use Rattle.tool_files.specs.declared.refusal.Detail.{Detail}
 use Rattle.tool_files.specs.declared.refusal.Place.{Place}

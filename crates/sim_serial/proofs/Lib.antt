@@ -3,3 +3,4 @@ pub mod Opens
 pub mod Words
 pub mod Keeps
 pub mod Sims
+pub mod Exports

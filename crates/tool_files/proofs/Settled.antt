@@ -11,15 +11,11 @@ use Rattle.pmsi_model.specs.Geometry.{CanKeep, most_touches}
 use Rattle.asm_parse.specs.declared.fault.AsmFault.{AsmFault}
 use Rattle.asm_parse.specs.declared.fault.AsmFault.TheVariants.{At, NoMemory}
 use Rattle.asm_parse.specs.Assembly.{IsAssembled, HasAsmFault}
-use Rattle.asm_link.proofs.OneImage.{one_image as one_assembled, no_fault}
-use Rattle.asm_link.proofs.HasImage.{image_or_fault as assembled_or_not, never_memory as never_asm_memory}
-use Rattle.image_file.proofs.Images.{either as image_or_not, not_both as not_both_images, one_image}
+use Rattle.asm_link.proofs.Exports.{one_image as one_assembled, no_fault, image_or_fault as assembled_or_not, never_memory as never_asm_memory}
+use Rattle.image_file.proofs.Exports.{either as image_or_not, not_both as not_both_images, one_image}
 use Rattle.image_file.specs.declared.fault.ImageFault.{ImageFault}
 use Rattle.image_file.specs.Checks.{HasFault}
-use Rattle.job_text.proofs.EitherEnd.{either as plan_or_not}
-use Rattle.job_text.proofs.EitherJoin.{either as join_or_not}
-use Rattle.job_text.proofs.OneEnd.{one_plan, one_fault, not_both as not_both_plans}
-use Rattle.job_text.proofs.OneJoin.{one_job, one_join_fault, not_both as not_both_joins}
+use Rattle.job_text.proofs.Exports.{plan_or_not, join_or_not, one_plan, one_fault, not_both_plans, one_job, one_join_fault, not_both_joins}
 use Rattle.job_text.specs.declared.job_fault.JobFault.{JobFault}
 use Rattle.pmsi_model.specs.declared.Keep.{Keep}
 use Rattle.pmsi_model.specs.Image.{ImageValue}

@@ -10,3 +10,4 @@ pub mod Actions
 pub mod Slots
 pub mod Rows
 pub mod Orders
+pub mod Exports

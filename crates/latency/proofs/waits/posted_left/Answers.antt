@@ -6,7 +6,7 @@ use Rattle.pmsi_model.specs.Run.{machine_at}
 use Rattle.pmsi_model.specs.Shared.{BusSide, IsShared, SharedValue, owner_in}
 use Rattle.coherence_laws.proofs.Exports.{stays_coherent}
 use Rattle.sim_serial.specs.Sims.{shape_of}
-use Rattle.sim_serial.proofs.Words.{owner_within}
+use Rattle.sim_serial.proofs.Exports.{owner_within}
 use Rattle.latency.proofs.Queued.{first_below, owner_waits}
 use Rattle.latency.proofs.waits.posted_left.Goals as goal
 

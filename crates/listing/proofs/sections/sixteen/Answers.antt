@@ -1,7 +1,7 @@
 use Rattle.std.proofs.Common.{◌+◌, ◌≤◌, ℕ, List, length, ◌∙◌, sym, subst, arith}
 use Rattle.pmsi_model.specs.declared.job.Geometry.{Geometry}
 use Rattle.pmsi_model.specs.Run.{machine_at}
-use Rattle.latest_laws.proofs.Runs.{run_ready}
+use Rattle.latest_laws.proofs.Exports.{run_ready}
 use Rattle.listing.proofs.Sixteens.{word_bytes, sixteen_bytes}
 use Rattle.listing.proofs.sections.sixteen.Goals as goal
 

@@ -1,7 +1,7 @@
 use Rattle.std.proofs.Common.{◌≡◌, ◌∙◌, ◌≤◌, length, ap, arith}
 use Rattle.pmsi_model.specs.declared.limits.TheConstants.{MAX_SLOTS}
 use Rattle.pmsi_model.specs.Run.{records}
-use Rattle.bus_core.proofs.Records.{records_length}
+use Rattle.bus_core.proofs.Exports.{records_length}
 use Rattle.tool_files.specs.Course.{keeps_actions}
 use Rattle.pmsi_tool.proofs.answer.actions_of.Goals as goal
 

@@ -1,4 +1,4 @@
-use Rattle.job_text.proofs.PlanLimits.{plans_fit}
+use Rattle.job_text.proofs.Exports.{plans_fit}
 use Rattle.tool_files.proofs.files.read_plan_file.Goals as goal
 
 pub returns-clause-plan : goal.returns-clause-plan

@@ -1,0 +1,2 @@
+-- The lemmas and words of this crate's proofs that other crates may name. They name no other file of these proofs.
+pub use Rattle.sim_serial.proofs.Words.{owner_within}
