@@ -6,9 +6,6 @@ ghost use Rattle.pmsi_model.specs.Image.{ImageValue};
 ghost use Rattle.asm_parse.specs.Assembly.{IsAssembled, HasAsmFault};
 ghost use Rattle.asm_link.specs.Laws.{GivesOnly};
 
-#[cfg(test)]
-mod tests;
-
 use crate::fill::fill;
 use crate::layout::{Layout, lay_out};
 use asm_parse::AsmFault;

@@ -5,9 +5,6 @@ ghost use Rattle.std.specs.List.{position, prefix_len};
 ghost use Rattle.pmsi_model.specs.declared.limits.TheConstants.{MAX_FILE_BYTES};
 ghost use Rattle.asm_operands.specs.Tokens.{is_name_byte, is_blank, kind_of, code_of, end_at, line_tokens};
 
-#[cfg(test)]
-mod tests;
-
 use crate::fault::TokenFault;
 use crate::token::{Token, TokenKind};
 use pmsi_model::limits::MAX_FILE_BYTES;

@@ -5,9 +5,6 @@ ghost use Rattle.std.specs.List.{after_first};
 ghost use Rattle.std.specs.Str.Lines.{strip_carriage_return};
 ghost use Rattle.asm_parse.specs.Lines.{lines_of, is_newline};
 
-#[cfg(test)]
-mod tests;
-
 /// Takes the first line off a source that isn't at its end: gives the line and what stands after it.
 pub fn next_line(source: &str) -> Option<(&str, &str)>
     ensures line { IfSome result (λ x. lines_of source.now ≡ x.0.now ∷ lines_of x.1.now) }

@@ -11,9 +11,6 @@ ghost use Rattle.asm_parse.specs.Forms.{forms_of};
 ghost use Rattle.asm_parse.specs.ReadLines.{IsReadAs, fault_of};
 ghost use Rattle.asm_parse.specs.Readings.{IsRead};
 
-#[cfg(test)]
-mod tests;
-
 use crate::checks::check_instrs;
 use crate::directive::{directive_named, read_directive};
 use crate::fault::{AsmCause, AsmFault};

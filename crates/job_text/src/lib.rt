@@ -21,8 +21,6 @@ mod printing;
 mod reading;
 mod rows;
 mod saying;
-#[cfg(test)]
-mod tests;
 
 pub use cutting::{code_of, next_field, next_line, only_field};
 pub use generating::generate;

@@ -15,6 +15,3 @@ mod whole;
 pub use head::push_shape_line;
 pub use waits::{push_bound_line, push_waits_line};
 pub use whole::{listing, summary};
-
-#[cfg(test)]
-mod tests;

@@ -11,6 +11,9 @@ use std::process::ExitCode;
 use std::sync::Wait;
 use std::thread::Threads;
 
+#[cfg(test)]
+mod tests;
+
 /// The words after the program's name: none where one isn't UTF-8.
 fn words(rt: &HostRuntime) -> Result<Vec<String>, AllocError> {
     let mut words = Vec::new(rt.alloc());

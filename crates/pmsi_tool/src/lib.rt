@@ -27,9 +27,6 @@ pub use tell::tell_no_memory;
 use tell::{complain, write_text};
 use threads::threads_answer_of;
 
-#[cfg(test)]
-mod tests;
-
 /// How a call ended. The numbers are the program's exit statuses.
 #[derive(Clone, Copy, Debug, PartialEq, Eq)]
 pub enum ToolStatus {

@@ -3,7 +3,5 @@
 
 mod cores;
 mod sim;
-#[cfg(test)]
-mod tests;
 
 pub use sim::Sim;

@@ -6,8 +6,6 @@ mod core_step;
 pub mod laws;
 mod meeting;
 mod spread;
-#[cfg(test)]
-mod tests;
 mod took;
 
 pub use pmsi_model::Step;

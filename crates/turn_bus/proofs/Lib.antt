@@ -4,4 +4,3 @@ pub mod TurnLooks
 pub mod TurnActs
 pub mod SeatLists
 pub mod Seatings
-pub mod TestSeats

@@ -2,4 +2,3 @@ pub mod ActionNumbers
 pub mod Rule
 pub mod Answers
 pub mod Seats
-pub mod TestRuns

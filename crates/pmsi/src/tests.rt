@@ -1,0 +1,319 @@
+//! Tests of the program's two calls, on files in memory and sinks that keep what is written, and of whole machines: on one
+//! thread, in any order of steps, and on many threads.
+use pmsi_outside::{Files, Gate, MemoryFiles, MemorySink, OpenGate, SteadyFiles};
+use pmsi_tool::{ToolStatus, tool, tool_threads};
+use std::alloc::{AllocError, Global};
+use std::process::Abort;
+use std::sync::Wait;
+use std::test::Fail;
+use std::thread::Threads;
+
+mod asm;
+mod commands;
+mod failing;
+mod faults;
+mod jobs;
+mod machines;
+mod runs;
+mod steps;
+mod words;
+mod workers;
+
+/// The name of a file, and its bytes.
+type File = (&'static str, &'static [u8]);
+
+fn words_of(alloc: Global, texts: &[&str]) -> Result<Vec<String>, AllocError> {
+    let mut words = Vec::new(alloc);
+    for text in texts {
+        words.push(String::from_str(alloc, text)?)?;
+    }
+    Ok(words)
+}
+
+/// One file, whose name is `a.job`.
+fn one(alloc: Global, bytes: Vec<u8>) -> Result<Vec<(String, Vec<u8>)>, AllocError> {
+    let mut list = Vec::new(alloc);
+    list.push((String::from_str(alloc, "a.job")?, bytes))?;
+    Ok(list)
+}
+
+/// These files, and a job of this text, whose name is `a.job`.
+fn with_job(
+    alloc: Global,
+    job: &str,
+    files: &[File],
+) -> Result<Vec<(String, Vec<u8>)>, AllocError> {
+    let mut list = one(alloc, job.as_bytes().to_vec(alloc)?)?;
+    for (name, bytes) in files {
+        list.push((String::from_str(alloc, name)?, bytes.to_vec(alloc)?))?;
+    }
+    Ok(list)
+}
+
+/// The files of a job whose cores have these sources: the job is `a.job`, and the source of core 0 is `0.s`.
+fn job_files(
+    alloc: Global,
+    heads: &str,
+    sources: &[&str],
+) -> Result<Vec<(String, Vec<u8>)>, AllocError> {
+    let mut text = format!(in alloc; "pmsi 1\ncores {}\n{heads}\n", sources.len())?;
+    let mut list = Vec::new(alloc);
+    for (core, source) in sources.iter().enumerate() {
+        let line = format!(in alloc; "core {core} asm {core}.s\n")?;
+        text.push_str(line.as_str())?;
+        list.push((
+            format!(in alloc; "{core}.s")?,
+            source.as_bytes().to_vec(alloc)?,
+        ))?;
+    }
+    list.push((String::from_str(alloc, "a.job")?, text.into_bytes()))?;
+    Ok(list)
+}
+
+fn sink(alloc: Global, step: u32, fails: Vec<u64>) -> Result<MemorySink, AllocError> {
+    let room = vec![in alloc; 0u8; 16_384]?;
+    Ok(MemorySink::new(room, step.max(1), fails))
+}
+
+/// How a call ended, and what its sinks hold.
+#[derive(Drop)]
+struct Ran {
+    status: ToolStatus,
+    out: MemorySink,
+    err: MemorySink,
+}
+
+/// Calls `tool` with these words and files, a sink that fails as told for `out`, and one for `err`.
+fn call<F: Files>(
+    alloc: Global,
+    texts: &[&str],
+    files: &mut F,
+    mut out: MemorySink,
+    mut err: MemorySink,
+) -> Result<Ran, AllocError> {
+    let words = words_of(alloc, texts)?;
+    let status = tool(alloc, &words, files, &mut out, &mut err);
+    Ok(Ran { status, out, err })
+}
+
+/// Calls `tool` with files and sinks that never fail.
+fn run(alloc: Global, texts: &[&str], list: Vec<(String, Vec<u8>)>) -> Result<Ran, AllocError> {
+    let mut files = SteadyFiles::new(list);
+    let out = sink(alloc, 16_384, Vec::new(alloc))?;
+    let err = sink(alloc, 16_384, Vec::new(alloc))?;
+    call(alloc, texts, &mut files, out, err)
+}
+
+/// Calls `tool_threads` with files and sinks that never fail.
+fn run_threaded<R: Threads + Wait + Sync, G: Gate + Sync>(
+    rt: &R,
+    alloc: Global,
+    texts: &[&str],
+    list: Vec<(String, Vec<u8>)>,
+    gate: &G,
+) -> Result<Ran, AllocError> {
+    let words = words_of(alloc, texts)?;
+    let mut files = SteadyFiles::new(list);
+    let mut out = sink(alloc, 16_384, Vec::new(alloc))?;
+    let mut err = sink(alloc, 16_384, Vec::new(alloc))?;
+    let status = tool_threads(rt, alloc, &words, &mut files, &mut out, &mut err, gate);
+    Ok(Ran { status, out, err })
+}
+
+/// Calls `tool` with files that give 4,096 bytes at a time, and whose call of this number fails.
+fn run_failing(
+    alloc: Global,
+    texts: &[&str],
+    list: Vec<(String, Vec<u8>)>,
+    number: u64,
+) -> Result<Ran, AllocError> {
+    let mut files = MemoryFiles::new(list, 4096, Vec::from_array(alloc, [number])?);
+    let out = sink(alloc, 16_384, Vec::new(alloc))?;
+    let err = sink(alloc, 16_384, Vec::new(alloc))?;
+    call(alloc, texts, &mut files, out, err)
+}
+
+/// A call ended well, and wrote exactly this. The label says which of a table's rows it was.
+fn wrote(rt: &impl Abort, label: &str, ran: &Ran, text: &[u8]) {
+    assert_eq!(rt; ran.status, ToolStatus::Done, "{label}");
+    assert_eq!(rt; ran.out.bytes(), text, "{label}");
+    assert!(rt; ran.err.bytes().is_empty(), "{label}");
+}
+
+/// A call ended with this status, wrote nothing, and told exactly this line.
+fn told(rt: &impl Abort, label: &str, ran: &Ran, status: ToolStatus, line: &str) {
+    assert_eq!(rt; ran.err.bytes(), line.as_bytes(), "{label}");
+    assert_eq!(rt; ran.status, status, "{label}");
+    assert!(rt; ran.out.bytes().is_empty(), "{label}");
+}
+
+/// A call was refused, and told exactly this place and detail.
+fn refused(rt: &impl Abort, alloc: Global, ran: &Ran, why: &str) -> Result<(), AllocError> {
+    let line = format!(in alloc; "refused: {why}\n")?;
+    told(rt, why, ran, ToolStatus::Refused, line.as_str());
+    Ok(())
+}
+
+/// A command refuses these bytes, and exactly this is told of them.
+fn refuses(
+    rt: &impl Abort,
+    alloc: Global,
+    command: &str,
+    bytes: Vec<u8>,
+    detail: &str,
+) -> Result<(), AllocError> {
+    let why = format!(in alloc; "input: {detail}")?;
+    let ran = run(alloc, &[command, "a.job"], one(alloc, bytes)?)?;
+    refused(rt, alloc, &ran, why.as_str())
+}
+
+/// `addi x5, x0, 7` and `ecall`.
+const ADDS_IMAGE: &[u8] = b"PMSIIMG1\x02\0\0\0\0\0\0\0\x93\x02\x70\0\x73\0\0\0";
+
+/// Three words that are 0.
+const ZEROS_IMAGE: &[u8] = b"PMSIIMG1\x03\0\0\0\0\0\0\0\0\0\0\0\0\0\0\0\0\0\0\0";
+
+/// No word, and a piece of one byte at 64.
+const PIECE_IMAGE: &[u8] = b"PMSIIMG1\0\0\0\0\x01\0\0\0\x40\0\0\0\x01\0\0\0\xff";
+
+/// A command, the bytes of its file, and its result.
+const WRITTEN: &[(&str, &[u8], &[u8])] = &[
+    ("image", ADDS_IMAGE, ADDS_IMAGE),
+    ("image", ZEROS_IMAGE, ZEROS_IMAGE),
+    ("image", PIECE_IMAGE, PIECE_IMAGE),
+    (
+        "dis",
+        ZEROS_IMAGE,
+        b".text\n.word 0x00000000\n.word 0x00000000\n.word 0x00000000\n",
+    ),
+    ("dis", ADDS_IMAGE, b".text\naddi x5, x0, 7\necall\n"),
+    (
+        "dis",
+        PIECE_IMAGE,
+        b".text\n.data\n.org 0x00000040\n.byte 0xff\n",
+    ),
+    ("asm", b"addi x5, x0, 7\necall\n", ADDS_IMAGE),
+    ("asm", b".text\naddi x5, x0, 7\necall\n", ADDS_IMAGE),
+];
+
+/// A command, the bytes of its file, and why they are refused.
+const REFUSED: &[(&str, &[u8], &str)] = &[
+    ("dis", b"PMSIIMG1\x02\0\0\0", "short 16 12"),
+    ("image", b"PMSIIMG2\0\0\0\0\0\0\0\0", "magic"),
+    (
+        "dis",
+        b"PMSIIMG1\x03\0\0\0\0\0\0\0\0\0\0\0\0\0\0\0\0\0\0",
+        "short 28 27",
+    ),
+    (
+        "dis",
+        b"PMSIIMG1\x03\0\0\0\0\0\0\0\0\0\0\0\0\0\0\0\0\0\0\0\0",
+        "extra 28",
+    ),
+    ("image", b"PMSIIMG1\x01\x40\0\0\0\0\0\0", "limit 16385"),
+    (
+        "image",
+        b"PMSIIMG1\0\0\0\0\x01\0\0\0\0\0\x10\0\x01\0\0\0\xff",
+        "range 0x00100000",
+    ),
+    (
+        "image",
+        b"PMSIIMG1\0\0\0\0\x02\0\0\0\0\0\0\0\x01\0\0\0\xff\x01\0\0\0\x01\0\0\0\xff",
+        "order 1",
+    ),
+    ("asm", b"\xff", "not text"),
+    ("asm", b"bad\nnop # \xff", "not text"),
+];
+
+#[test]
+fn writes_results(rt: HostRuntime) -> Result<(), Fail> {
+    let alloc = rt.alloc();
+    for (command, bytes, text) in WRITTEN {
+        let list = one(alloc, bytes.to_vec(alloc)?)?;
+        let ran = run(alloc, &[command, "a.job"], list)?;
+        wrote(&rt, command, &ran, text);
+    }
+    Ok(())
+}
+
+#[test]
+fn refuses_files(rt: HostRuntime) -> Result<(), Fail> {
+    let alloc = rt.alloc();
+    for (command, bytes, detail) in REFUSED {
+        refuses(&rt, alloc, command, bytes.to_vec(alloc)?, detail)?;
+    }
+    Ok(())
+}
+
+#[test]
+fn refuses_large_files(rt: HostRuntime) -> Result<(), Fail> {
+    let alloc = rt.alloc();
+    for command in ["run", "asm", "dis"] {
+        let large = vec![in alloc; 0u8; 16_777_217]?;
+        refuses(&rt, alloc, command, large, "large")?;
+    }
+    Ok(())
+}
+
+#[test]
+fn a_failed_write_leaves_a_front(rt: HostRuntime) -> Result<(), Fail> {
+    let alloc = rt.alloc();
+    let list = job_files(alloc, jobs::SMALL, &[jobs::ADDS])?;
+    let mut files = SteadyFiles::new(list);
+    let out = sink(alloc, 3, Vec::from_array(alloc, [2])?)?;
+    let err = sink(alloc, 1024, Vec::new(alloc))?;
+    let ran = call(alloc, &["run", "a.job"], &mut files, out, err)?;
+    assert_eq!(rt; ran.status, ToolStatus::WriteFault);
+    assert!(rt; ran.out.bytes() == b"pms".as_slice());
+    assert!(rt; ran.err.bytes() == b"write fault\n".as_slice());
+    Ok(())
+}
+
+#[test]
+fn a_failed_line_is_a_write_fault(rt: HostRuntime) -> Result<(), Fail> {
+    let alloc = rt.alloc();
+    let mut files = SteadyFiles::new(Vec::new(alloc));
+    let out = sink(alloc, 3, Vec::new(alloc))?;
+    let err = sink(alloc, 3, Vec::from_array(alloc, [2])?)?;
+    let ran = call(alloc, &["run", "a.job"], &mut files, out, err)?;
+    assert_eq!(rt; ran.status, ToolStatus::WriteFault);
+    assert!(rt; ran.out.bytes().is_empty());
+    assert!(rt; ran.err.bytes() == b"rea".as_slice());
+    Ok(())
+}
+
+#[test]
+fn statuses_have_their_numbers(rt: HostRuntime) {
+    assert_eq!(rt; ToolStatus::Done as u8, 0);
+    assert_eq!(rt; ToolStatus::Usage as u8, 2);
+    assert_eq!(rt; ToolStatus::ReadFault as u8, 3);
+    assert_eq!(rt; ToolStatus::WriteFault as u8, 4);
+    assert_eq!(rt; ToolStatus::Refused as u8, 5);
+    assert_eq!(rt; ToolStatus::NoMemory as u8, 6);
+}
+
+/// A command on these bytes writes an image of as many words as the limit.
+fn writes_the_most(
+    rt: &impl Abort,
+    alloc: Global,
+    command: &str,
+    bytes: Vec<u8>,
+) -> Result<(), AllocError> {
+    let mut files = SteadyFiles::new(one(alloc, bytes)?);
+    let out = MemorySink::new(vec![in alloc; 0u8; 65_552]?, 4096, Vec::new(alloc));
+    let err = sink(alloc, 1024, Vec::new(alloc))?;
+    let ran = call(alloc, &[command, "a.job"], &mut files, out, err)?;
+    assert_eq!(rt; ran.status, ToolStatus::Done);
+    assert_eq!(rt; ran.out.bytes().len(), 65_552);
+    Ok(())
+}
+
+#[test]
+fn takes_as_many_words_as_the_limit(rt: HostRuntime) -> Result<(), Fail> {
+    let alloc = rt.alloc();
+    let mut bytes = vec![in alloc; 0u8; 65_552]?;
+    bytes[..16].copy_from_slice(b"PMSIIMG1\0\x40\0\0\0\0\0\0");
+    writes_the_most(&rt, alloc, "image", bytes)?;
+    writes_the_most(&rt, alloc, "asm", asm::full(alloc, "a:")?.into_bytes())?;
+    Ok(())
+}
