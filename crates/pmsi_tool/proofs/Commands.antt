@@ -1,5 +1,5 @@
 -- What commands come to, by what their files are.
-use Rattle.std.proofs.Common.{◌≡◌, ◌∙◌, ap, refl, subst, ℕ, ◌≤◌, List, Bool, true, false, arith}
+use Rattle.std.proofs.Common.{◌≡◌, ap, refl, ℕ, ◌≤◌, List, arith}
 use Rattle.std.specs.Prelude.{Option}
 use Rattle.pmsi_model.specs.declared.Keep.{Keep}
 use Rattle.pmsi_model.specs.Image.{ImageValue}
@@ -7,17 +7,14 @@ use Rattle.pmsi_model.specs.Job.{JobValue, IsJob}
 use Rattle.pmsi_model.specs.Listing.{listing_of, summary_of}
 use Rattle.pmsi_outside.specs.Files.{Contents}
 use Rattle.image_file.specs.Format.{image_bytes}
-use Rattle.asm_print.specs.ListingText.{listing_text}
 use Rattle.job_text.specs.declared.plan.JobPlan.{JobPlan}
-use Rattle.job_text.specs.Generating.{generated}
-use Rattle.job_text.specs.Plans.{plan_text}
 use Rattle.script_text.specs.declared.command.Command.{Command}
 use Rattle.script_text.specs.Output.{output_of}
-use Rattle.tool_words.specs.Meaning.{run, sim, trace, asm, dis, image, gen, debug}
+use Rattle.tool_words.specs.Meaning.{run, sim, trace, image, debug}
 use Rattle.tool_files.specs.declared.refusal.Place.TheVariants.{Input, Script}
 use Rattle.tool_files.specs.declared.refusal.Stop.{Stop}
-use Rattle.tool_files.specs.Course.{opens, refuses, gives, ends, job_file, source_file, image_file, script_file, planned, keeps_nothing, keeps_actions, actions_text}
-use Rattle.tool_files.specs.Parsed.{IsSource, SourceFails, IsImageFile, ImageFails, IsScript, ScriptFails}
+use Rattle.tool_files.specs.Course.{opens, refuses, gives, ends, job_file, image_file, script_file, planned, keeps_nothing, keeps_actions, actions_text}
+use Rattle.tool_files.specs.Parsed.{IsImageFile, ImageFails, IsScript, ScriptFails}
 use Rattle.tool_files.specs.Stops.{Stops, files_call}
 use Rattle.tool_files.proofs.Exports.{job_on, kind_on, planned_on, stops_on}
 use Rattle.pmsi_tool.specs.Answers.{GivesText, StopsOn}
@@ -44,27 +41,6 @@ module _ (contents : Option Contents) (before now : ℕ) (blamed : Option (List 
 
   pub trace_stops : (name : List ℕ) → Stops (job_file contents keeps_actions name ends) (files_call contents before now blamed) stop → StopsOn (trace name) (files_call contents before now blamed) stop
   trace_stops name = job_stops keeps_actions name actions_text
-
-  pub gen_stops : (seed cores slots : ℕ) (runs : Bool) (plan : JobPlan) → runs ≡ true → plan ≡ generated seed cores slots
-      → Stops (planned contents keeps_nothing (λ j. ends (summary_of j)) plan) (files_call contents before now blamed) stop → StopsOn (gen seed cores slots runs) (files_call contents before now blamed) stop
-  gen_stops seed cores slots true plan is same stops =
-      subst (λ (p : JobPlan). Stops (planned contents keeps_nothing (λ j. ends (summary_of j)) p) (files_call contents before now blamed) stop) same stops
-  gen_stops seed cores slots false plan is same stops = absurd (cc)
-
-  pub asm_stops : (name : List ℕ) → Stops (source_file contents Input name ends) (files_call contents before now blamed) stop → StopsOn (asm name) (files_call contents before now blamed) stop
-  asm_stops name = stops_on (source_file contents Input name ends) (source_file contents Input name (λ i. ends (image_bytes i))) before (files_call contents before now blamed) stop (omega arith)
-      (λ n. kind_on contents Input name IsSource SourceFails (λ i. ends (image_bytes i)) (opens n) (opens n) refl)
-      (λ p d. kind_on contents Input name IsSource SourceFails (λ i. ends (image_bytes i)) (refuses p d) (refuses p d) refl)
-
-  pub dis_stops : (name : List ℕ) → Stops (image_file contents Input name ends) (files_call contents before now blamed) stop → StopsOn (dis name) (files_call contents before now blamed) stop
-  dis_stops name = stops_on (image_file contents Input name ends) (image_file contents Input name (λ i. ends (listing_text i))) before (files_call contents before now blamed) stop (omega arith)
-      (λ n. kind_on contents Input name IsImageFile ImageFails (λ i. ends (listing_text i)) (opens n) (opens n) refl)
-      (λ p d. kind_on contents Input name IsImageFile ImageFails (λ i. ends (listing_text i)) (refuses p d) (refuses p d) refl)
-
-  pub image_stops : (name : List ℕ) → Stops (image_file contents Input name ends) (files_call contents before now blamed) stop → StopsOn (image name) (files_call contents before now blamed) stop
-  image_stops name = stops_on (image_file contents Input name ends) (image_file contents Input name (λ i. ends (image_bytes i))) before (files_call contents before now blamed) stop (omega arith)
-      (λ n. kind_on contents Input name IsImageFile ImageFails (λ i. ends (image_bytes i)) (opens n) (opens n) refl)
-      (λ p d. kind_on contents Input name IsImageFile ImageFails (λ i. ends (image_bytes i)) (refuses p d) (refuses p d) refl)
 
   pub debug_stops : (job script : List ℕ) → Stops (job_file contents keeps_nothing job ends) (files_call contents before now blamed) stop → StopsOn (debug job script) (files_call contents before now blamed) stop
   debug_stops job script = stops_on (job_file contents keeps_nothing job ends) (job_file contents keeps_nothing job (λ j. script_file contents script j.shape (λ commands. ends (output_of j commands)))) before (files_call contents before now blamed) stop (omega arith)
@@ -93,12 +69,6 @@ module _ (contents : Option Contents) (name text : List ℕ) where
   pub trace_text : (job : JobValue) → job_file contents keeps_actions name ends (gives job) → text ≡ actions_text job → GivesText contents (trace name) text
   trace_text job read is = record { comes = job_on contents keeps_actions name (λ j. ends (actions_text j)) (gives job) (gives text) (ap gives is) read; faithful = tt }
 
-  pub asm_text : (i : ImageValue) → source_file contents Input name ends (gives i) → text ≡ image_bytes i → GivesText contents (asm name) text
-  asm_text i read is = record { comes = kind_on contents Input name IsSource SourceFails (λ i. ends (image_bytes i)) (gives i) (gives text) (ap gives is) read; faithful = tt }
-
-  pub dis_text : (i : ImageValue) → image_file contents Input name ends (gives i) → text ≡ listing_text i → GivesText contents (dis name) text
-  dis_text i read is = record { comes = kind_on contents Input name IsImageFile ImageFails (λ i. ends (listing_text i)) (gives i) (gives text) (ap gives is) read; faithful = tt }
-
   pub image_text : (i : ImageValue) → image_file contents Input name ends (gives i) → text ≡ image_bytes i → GivesText contents (image name) text
   image_text i read is = record { comes = kind_on contents Input name IsImageFile ImageFails (λ i. ends (image_bytes i)) (gives i) (gives text) (ap gives is) read; faithful = tt }
 
@@ -107,17 +77,6 @@ module _ (contents : Option Contents) (text : List ℕ) where
   pub summary_text : (plan : JobPlan) (job : JobValue) → planned contents keeps_nothing ends plan (gives job) → text ≡ summary_of job
       → planned contents keeps_nothing (λ j. ends (summary_of j)) plan (gives text)
   summary_text plan job read is = planned_on contents keeps_nothing plan (λ j. ends (summary_of j)) (gives job) (gives text) (ap gives is) read
-
-  pub gen_run : (seed cores slots : ℕ) (runs : Bool) (plan : JobPlan) → runs ≡ true → plan ≡ generated seed cores slots
-      → planned contents keeps_nothing (λ j. ends (summary_of j)) plan (gives text) → GivesText contents (gen seed cores slots runs) text
-  gen_run seed cores slots true plan is same goes =
-      record { comes = subst (λ (p : JobPlan). planned contents keeps_nothing (λ j. ends (summary_of j)) p (gives text)) same goes; faithful = tt }
-  gen_run seed cores slots false plan is same goes = absurd (cc)
-
-  pub gen_printed : (seed cores slots : ℕ) (runs : Bool) (plan : JobPlan) → runs ≡ false → plan ≡ generated seed cores slots → text ≡ plan_text plan
-      → GivesText contents (gen seed cores slots runs) text
-  gen_printed seed cores slots true plan not_run same is = absurd (cc)
-  gen_printed seed cores slots false plan not_run same is = record { comes = ap gives (is ∙ ap plan_text same); faithful = tt }
 
   pub debug_text : (job script : List ℕ) (j : JobValue) (commands : List Command) → job_file contents keeps_nothing job ends (gives j)
       → script_file contents script j.shape ends (gives commands) → text ≡ output_of j commands → GivesText contents (debug job script) text
