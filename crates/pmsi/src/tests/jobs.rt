@@ -55,7 +55,8 @@ const SPELLINGS: &[&str] = &[
     // lines that end with the bytes 13 and 10, and a last one that has no end
     "pmsi 1\r\ncores 1\r\nquantum 1\r\nline 4\r\nsets 1\r\nways 1\r\nmemory 64\r\nslots 4\r\ncore 0 hex 00700293 00000073",
     // comments, blanks and empty lines
-    "# a job \u{e4}\n\n \t\n\tpmsi\t1 # version\ncores  1#few\nquantum 1 ## #\nline 4\nsets 1\nways 1\nmemory 64 \nslots 4\t\r\n\ncore 0 hex\t00700293\t 00000073 # 2\n#",
+    "# a job \u{e4}\n\n \t\n\tpmsi\t1 # version\ncores  1#few\nquantum 1 ## #\nline 4\nsets 1\nways 1\nmemory 64 \nslots 4\t\r\n\n\
+     core 0 hex\t00700293\t 00000073 # 2\n#",
     // lines in another order
     "pmsi 1\ncore 0 hex 00700293 00000073\nslots 4\nmemory 64\nways 1\nsets 1\nline 4\nquantum 1\ncores 1\n",
     // zeros in front
@@ -284,7 +285,8 @@ fn counted(alloc: Global, core: u32) -> Result<String, AllocError> {
     }
     let held = if core == 15 { "held 0:M" } else { "held" };
     format!(in alloc;
-        "core {core} pc 0x00000008 retired 2 exit {core}\nregs x5=0x{core:08x} x6=0x00000001 x10=0x{core:08x} x11=0x00000010\n{held}\n"
+        "core {core} pc 0x00000008 retired 2 exit {core}\n\
+         regs x5=0x{core:08x} x6=0x00000001 x10=0x{core:08x} x11=0x00000010\n{held}\n"
     )
 }
 
