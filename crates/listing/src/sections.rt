@@ -11,7 +11,6 @@ ghost use Rattle.pmsi_model.specs.Rows.{rows_of, open_row_of, open_rows_in, opti
 ghost use Rattle.sim_serial.specs.Sims.{IsSimOf, shape_of};
 ghost use Rattle.listing.specs.Asked.{KeepsAsked};
 
-use crate::histories::push_action_lines;
 use crate::memory::push_sixteen;
 use crate::requests::push_open_row_line;
 use crate::waits::push_waits_line;
@@ -20,6 +19,7 @@ use core_unit::Core;
 use pmsi_model::Keep;
 use sim_serial::Sim;
 use std::alloc::AllocError;
+use trace_text::push_action_lines;
 
 /// Appends the three lines of a core.
 fn push_core(out: &mut Vec<u8>, c: u32, core: &Core) -> Result<(), AllocError>

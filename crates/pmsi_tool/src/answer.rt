@@ -114,7 +114,7 @@ fn actions_of(alloc: Global, _job: &Job, sim: &Sim) -> Result<Vec<u8>, NoMemory>
     requires keeps { Keeps keeps_actions sim.now }
     ensures { IfOk result (λ text. text.items ≡ actions_text _job.now) }
 {
-    write_actions(alloc, sim.shape().cores, sim.bus().trace())
+    write_actions(alloc, sim.bus().table(), sim.bus().trace())
 }
 
 /// The machine of a job after its last slot.

@@ -1,5 +1,5 @@
 -- What is read as a trace is the text of that trace.
-use Rattle.std.proofs.Common.{◌≡◌, ◌⊎◌, inl, inr, ℕ, ◌+◌, ◌<◌, ◌≤◌, ◌%◌, List, [], ◌∷◌, ◌++◌, length, Option, Some, None, Result, Ok, Err, Bool, true, false, refl, sym, ap, ◌∙◌, subst, append_assoc, append-nil, length-append, arith, codes, decimal}
+use Rattle.std.proofs.Common.{◌≡◌, ◌⊎◌, inl, inr, ℕ, ◌+◌, ◌<◌, ◌≤◌, List, [], ◌∷◌, ◌++◌, length, Option, Some, None, Result, Ok, Err, Bool, true, false, refl, sym, ap, ◌∙◌, subst, append_assoc, append-nil, length-append, arith, codes, decimal}
 use Rattle.std.specs.Prelude.{nat_le, if◌then◌else◌}
 use Rattle.std.specs.List.{AllByRecursion, join_with_byte, slice_split}
 use Rattle.std.specs.Option.{option_map}
@@ -13,13 +13,14 @@ use Rattle.pmsi_model.specs.declared.Name.{Name}
 use Rattle.pmsi_model.specs.declared.Name.TheVariants.{GetS, GetM, Upg}
 use Rattle.pmsi_model.specs.declared.limits.TheConstants.{MAX_CORES, MAX_SLOTS}
 use Rattle.pmsi_model.specs.Lines.{action_line, action_lines, action_text, kept_text, name_text}
-use Rattle.pmsi_model.specs.Slots.{plain_plan}
+use Rattle.pmsi_model.specs.Slots.{owner_of_slot, plain_plan}
 use Rattle.trace_text.specs.declared.fault.TraceFault.{TraceFault}
 use Rattle.trace_text.specs.declared.fault.TraceFault.TheVariants.{Line}
 use Rattle.trace_text.specs.declared.row.Row.{Row}
 use Rattle.trace_text.specs.declared.row.Row.TheVariants as row
 use Rattle.trace_text.specs.declared.trace.Trace.{Trace}
-use Rattle.trace_text.specs.Text.{HasLine, IsTrace, end_text, greatest_line, trace_of}
+use Rattle.trace_text.specs.declared.trace.TheConstants.{MAX_LINE}
+use Rattle.trace_text.specs.Text.{HasLine, IsTrace, end_text, trace_of}
 use Rattle.trace_text.specs.Reading.{action_in, both, cores_first, cores_in, ended, fields_of, fill_in, idle_in, if_some_core, is_newline, kept_in, long_in, name_in, number_in, on_row, reading_of, row_in, rows_in, version_first, with_cores}
 use Rattle.trace_text.proofs.RowParts.{TellsAction, tells_action, tells_end}
 use Rattle.trace_text.proofs.Spellings.{is_text, line_is, number_spelled, slot_text}
@@ -69,7 +70,7 @@ idle_told : (what : List ℕ) (action : Action) → idle_in what ≡ Some action
 unfolding idle_in
 idle_told what action is = idle_by what (bytes_eq what (codes "idle")) action (is_text what (codes "idle")) is
 
-fill_by : (what line : List ℕ) (a : Bool) (n : Option ℕ) (action : Action) → (a ≡ true → what ≡ codes "fill") → ((k : ℕ) → n ≡ Some k → (line ≡ decimal k) × (k ≤ greatest_line))
+fill_by : (what line : List ℕ) (a : Bool) (n : Option ℕ) (action : Action) → (a ≡ true → what ≡ codes "fill") → ((k : ℕ) → n ≡ Some k → (line ≡ decimal k) × (k ≤ MAX_LINE))
     → (if a then option_map Fill n else None) ≡ Some action → Told (what ∷ line ∷ []) action
 fill_by what line true None action x y is = absurd cc
 fill_by what line true (Some k) action x y is =
@@ -78,15 +79,15 @@ fill_by what line true (Some k) action x y is =
     subst (Told (what ∷ line ∷ [])) e (record { text = rw (x refl, spelled.0) refl; line = spelled.1; some = omega arith })
 fill_by what line false n action x y is = absurd cc
 
-number_told : (field : List ℕ) (k : ℕ) → number_in greatest_line field ≡ Some k → (field ≡ decimal k) × (k ≤ greatest_line)
-number_told field k is = number_spelled greatest_line field k (omega arith) is
+number_told : (field : List ℕ) (k : ℕ) → number_in MAX_LINE field ≡ Some k → (field ≡ decimal k) × (k ≤ MAX_LINE)
+number_told field k is = number_spelled MAX_LINE field k (omega arith) is
 
 fill_told : (what line : List ℕ) (action : Action) → fill_in what line ≡ Some action → Told (what ∷ line ∷ []) action
 unfolding fill_in
-fill_told what line action is = fill_by what line (bytes_eq what (codes "fill")) (number_in greatest_line line) action (is_text what (codes "fill")) (number_told line) is
+fill_told what line action is = fill_by what line (bytes_eq what (codes "fill")) (number_in MAX_LINE line) action (is_text what (codes "fill")) (number_told line) is
 
 post_by : (what first second : List ℕ) (name : Option Name) (n : Option ℕ) (action : Action) → what ≡ codes "post" → ((m : Name) → name ≡ Some m → first ≡ name_text m)
-    → ((k : ℕ) → n ≡ Some k → (second ≡ decimal k) × (k ≤ greatest_line)) → both Post name n ≡ Some action → Told (what ∷ first ∷ second ∷ []) action
+    → ((k : ℕ) → n ≡ Some k → (second ≡ decimal k) × (k ≤ MAX_LINE)) → both Post name n ≡ Some action → Told (what ∷ first ∷ second ∷ []) action
 post_by what first second None n action w x y is = absurd cc
 post_by what first second (Some m) None action w x y is = absurd cc
 post_by what first second (Some m) (Some k) action w x y is =
@@ -95,7 +96,7 @@ post_by what first second (Some m) (Some k) action w x y is =
     subst (Told (what ∷ first ∷ second ∷ [])) e (record { text = rw (w, x m refl, spelled.0) (simp append_assoc); line = spelled.1; some = omega arith })
 
 postfill_by : (what first second : List ℕ) (name : Option Name) (n : Option ℕ) (action : Action) → what ≡ codes "postfill" → ((m : Name) → name ≡ Some m → first ≡ name_text m)
-    → ((k : ℕ) → n ≡ Some k → (second ≡ decimal k) × (k ≤ greatest_line)) → both PostFill name n ≡ Some action → Told (what ∷ first ∷ second ∷ []) action
+    → ((k : ℕ) → n ≡ Some k → (second ≡ decimal k) × (k ≤ MAX_LINE)) → both PostFill name n ≡ Some action → Told (what ∷ first ∷ second ∷ []) action
 postfill_by what first second None n action w x y is = absurd cc
 postfill_by what first second (Some m) None action w x y is = absurd cc
 postfill_by what first second (Some m) (Some k) action w x y is =
@@ -103,7 +104,7 @@ postfill_by what first second (Some m) (Some k) action w x y is =
     let spelled = y k refl in
     subst (Told (what ∷ first ∷ second ∷ [])) e (record { text = rw (w, x m refl, spelled.0) (simp append_assoc); line = spelled.1; some = omega arith })
 
-back_by : (what first second : List ℕ) (n : Option ℕ) (kept : Option Bool) (action : Action) → what ≡ codes "back" → ((k : ℕ) → n ≡ Some k → (first ≡ decimal k) × (k ≤ greatest_line))
+back_by : (what first second : List ℕ) (n : Option ℕ) (kept : Option Bool) (action : Action) → what ≡ codes "back" → ((k : ℕ) → n ≡ Some k → (first ≡ decimal k) × (k ≤ MAX_LINE))
     → ((b : Bool) → kept ≡ Some b → second ≡ kept_text b) → both Back n kept ≡ Some action → Told (what ∷ first ∷ second ∷ []) action
 back_by what first second None kept action w x y is = absurd cc
 back_by what first second (Some k) None action w x y is = absurd cc
@@ -113,13 +114,13 @@ back_by what first second (Some k) (Some b) action w x y is =
     subst (Told (what ∷ first ∷ second ∷ [])) e (record { text = rw (w, spelled.0, y b refl) (simp append_assoc); line = spelled.1; some = omega arith })
 
 long_by : (what first second : List ℕ) (a b c : Bool) (action : Action) → (a ≡ true → what ≡ codes "post") → (b ≡ true → what ≡ codes "postfill") → (c ≡ true → what ≡ codes "back")
-    → (if a then both Post (name_in first) (number_in greatest_line second)
-    else if b then both PostFill (name_in first) (number_in greatest_line second)
-    else if c then both Back (number_in greatest_line first) (kept_in second)
+    → (if a then both Post (name_in first) (number_in MAX_LINE second)
+    else if b then both PostFill (name_in first) (number_in MAX_LINE second)
+    else if c then both Back (number_in MAX_LINE first) (kept_in second)
     else None) ≡ Some action → Told (what ∷ first ∷ second ∷ []) action
-long_by what first second true b c action x y z is = post_by what first second (name_in first) (number_in greatest_line second) action (x refl) (name_told first) (number_told second) is
-long_by what first second false true c action x y z is = postfill_by what first second (name_in first) (number_in greatest_line second) action (y refl) (name_told first) (number_told second) is
-long_by what first second false false true action x y z is = back_by what first second (number_in greatest_line first) (kept_in second) action (z refl) (number_told first) (kept_told second) is
+long_by what first second true b c action x y z is = post_by what first second (name_in first) (number_in MAX_LINE second) action (x refl) (name_told first) (number_told second) is
+long_by what first second false true c action x y z is = postfill_by what first second (name_in first) (number_in MAX_LINE second) action (y refl) (name_told first) (number_told second) is
+long_by what first second false false true action x y z is = back_by what first second (number_in MAX_LINE first) (kept_in second) action (z refl) (number_told first) (kept_told second) is
 long_by what first second false false false action x y z is = absurd cc
 
 long_told : (what first second : List ℕ) (action : Action) → long_in what first second ≡ Some action → Told (what ∷ first ∷ second ∷ []) action
@@ -161,12 +162,12 @@ ended_parts made trace ([] ∷ next ∷ more) is = absurd cc
 ended_parts made trace ((byte ∷ bytes) ∷ more) is = absurd cc
 
 last_rows : (cores : ℕ) (done : List Action) (line next : List ℕ) (more : List (List ℕ)) (trace : Trace) → length done ≤ MAX_SLOTS
-    → row_in cores (length done) (fields_of line) ≡ Ok row.End → ended (record { cores = cores; actions = done }) (next ∷ more) ≡ Ok trace → IsRows cores done (line ∷ next ∷ more) trace
+    → row_in (plain_plan cores) (length done) (fields_of line) ≡ Ok row.End → ended (record { cores = cores; actions = done }) (next ∷ more) ≡ Ok trace → IsRows cores done (line ∷ next ∷ more) trace
 unfolding action_lines
 last_rows cores done line next more trace few read is =
     let parts = ended_parts (record { cores = cores; actions = done }) trace (next ∷ more) is in
     let same : done ++ [] ≡ done = append-nil done in
-    let spelled : line ≡ codes "end" ++ (32 ∷ decimal (length done)) = line_joined line (codes "end" ∷ decimal (length done) ∷ []) (tells_end cores (length done) (fields_of line) read) in
+    let spelled : line ≡ codes "end" ++ (32 ∷ decimal (length done)) = line_joined line (codes "end" ∷ decimal (length done) ∷ []) (tells_end (plain_plan cores) (length done) (fields_of line) read) in
     record {
       rest = [];
       all = sym parts.1 ∙ ap (λ (actions : List Action). record { cores = cores; actions = actions }) (sym same);
@@ -176,7 +177,7 @@ last_rows cores done line next more trace few read is =
     }
 
 more_rows : (cores : ℕ) (done : List Action) (action : Action) (line next : List ℕ) (more : List (List ℕ)) (trace : Trace)
-    → TellsAction cores (length done) (fields_of line) action → IsRows cores (done ++ action ∷ []) (next ∷ more) trace → IsRows cores done (line ∷ next ∷ more) trace
+    → TellsAction (plain_plan cores) (length done) (fields_of line) action → IsRows cores (done ++ action ∷ []) (next ∷ more) trace → IsRows cores done (line ∷ next ∷ more) trace
 unfolding action_lines
 more_rows cores done action line next more trace tells rows =
     let slot = length done in
@@ -191,10 +192,10 @@ more_rows cores done action line next more trace tells rows =
     record {
       rest = action ∷ rows.rest;
       all = rows.all ∙ ap (λ (actions : List Action). record { cores = cores; actions = actions }) same;
-      text = ap (λ (text : List ℕ). text ++ (10 ∷ join_with_byte 10 (next ∷ more))) (slot_joined slot (slot % cores) line tells.told action tells.is told)
-          ∙ ap (λ (text : List ℕ). slot_text slot (slot % cores) action ++ (10 ∷ text)) after
-          ∙ sym (line_is slot (slot % cores) action (lines ++ last))
-          ∙ sym (append_assoc (action_line slot (slot % cores) action) lines last);
+      text = ap (λ (text : List ℕ). text ++ (10 ∷ join_with_byte 10 (next ∷ more))) (slot_joined slot (owner_of_slot (plain_plan cores) slot) line tells.told action tells.is told)
+          ∙ ap (λ (text : List ℕ). slot_text slot (owner_of_slot (plain_plan cores) slot) action ++ (10 ∷ text)) after
+          ∙ sym (line_is slot (owner_of_slot (plain_plan cores) slot) action (lines ++ last))
+          ∙ sym (append_assoc (action_line slot (owner_of_slot (plain_plan cores) slot) action) lines last);
       lines = (told.line, rows.lines);
       few = subst (λ (actions : List Action). length actions ≤ MAX_SLOTS) same rows.few;
     }
@@ -204,9 +205,9 @@ unfolding rows_in
 rows_told cores done [] trace few is = absurd cc
 rows_told cores done (rest ∷ []) trace few is = absurd cc
 rows_told cores done (line ∷ next ∷ more) trace few is =
-    elim (on_row_parts (row_in cores (length done) (fields_of line)) (ended (record { cores = cores; actions = done }) (next ∷ more)) (λ action. rows_in cores (done ++ action ∷ []) (next ∷ more)) trace is) [
+    elim (on_row_parts (row_in (plain_plan cores) (length done) (fields_of line)) (ended (record { cores = cores; actions = done }) (next ∷ more)) (λ action. rows_in cores (done ++ action ∷ []) (next ∷ more)) trace is) [
       | inl s ↦ (
-          let tells = tells_action cores (length done) (fields_of line) s.0 s.1 in
+          let tells = tells_action (plain_plan cores) (length done) (fields_of line) s.0 s.1 in
           let below : length done < MAX_SLOTS = tells.below in
           more_rows cores done s.0 line next more trace tells
           (rows_told cores (done ++ s.0 ∷ []) (next ∷ more) trace (omega (arith, length-append done (s.0 ∷ []))) s.2))

@@ -1,5 +1,5 @@
 -- The text of a trace is read as that trace.
-use Rattle.std.proofs.Common.{◌≡◌, ℕ, ◌+◌, ◌^◌, ◌<◌, ◌≤◌, ◌%◌, List, [], ◌∷◌, ◌++◌, length, Some, Ok, true, false, refl, sym, ap, ◌∙◌, subst, append_assoc, append-nil, length-append, arith, codes, decimal, add-zero, zero-add}
+use Rattle.std.proofs.Common.{◌≡◌, ℕ, ◌+◌, ◌^◌, ◌<◌, ◌≤◌, List, [], ◌∷◌, ◌++◌, length, Some, Ok, true, false, refl, sym, ap, ◌∙◌, subst, append_assoc, append-nil, length-append, arith, codes, decimal, add-zero, zero-add}
 use Rattle.std.specs.Prelude.{nat_le}
 use Rattle.std.specs.List.{AllByRecursion, slice_split}
 use Rattle.std.proofs.lemmas.Bool.Decides.{nat_tests}
@@ -7,7 +7,7 @@ use Rattle.std.proofs.lemmas.List.Elements.{recursion_from_All}
 use Rattle.pmsi_model.specs.declared.Action.{Action}
 use Rattle.pmsi_model.specs.declared.limits.TheConstants.{MAX_CORES, MAX_SLOTS}
 use Rattle.pmsi_model.specs.Lines.{action_line, action_lines}
-use Rattle.pmsi_model.specs.Slots.{plain_plan}
+use Rattle.pmsi_model.specs.Slots.{SlotPlan, owner_of_slot, plain_plan}
 use Rattle.trace_text.specs.declared.row.Row.TheVariants as row
 use Rattle.trace_text.specs.declared.trace.Trace.{Trace}
 use Rattle.trace_text.specs.Text.{HasLine, IsTrace, end_text, trace_of}
@@ -18,18 +18,20 @@ use Rattle.trace_text.proofs.Spellings.{action_again, cut_at, decimal_lacks, lac
 
 -- ---- one line
 
-slot_again : (cores slot : ℕ) (action : Action) → slot < MAX_SLOTS → slot_row cores slot (decimal slot) (decimal (slot % cores)) (Some action) ≡ Ok (row.Slot action)
+slot_again : (plan : SlotPlan) (slot : ℕ) (action : Action) → slot < MAX_SLOTS
+    → slot_row plan slot (decimal slot) (decimal (owner_of_slot plan slot)) (Some action) ≡ Ok (row.Slot action)
 unfolding slot_row
-slot_again cores slot action low =
+slot_again plan slot action low =
     let few : nat_le MAX_SLOTS slot ≡ false = grind (arith, nat_tests) in
-    rw (few, same_bytes (decimal slot), same_bytes (decimal (slot % cores))) refl
+    rw (few, same_bytes (decimal slot), same_bytes (decimal (owner_of_slot plan slot))) refl
 
-row_again : (cores slot : ℕ) (action : Action) → 1 ≤ cores → cores ≤ MAX_CORES → slot < MAX_SLOTS → HasLine action → row_in cores slot (fields_of (slot_text slot (slot % cores) action)) ≡ Ok (row.Slot action)
+row_again : (plan : SlotPlan) (slot : ℕ) (action : Action) → owner_of_slot plan slot < 2 ^ 64 → slot < MAX_SLOTS → HasLine action
+    → row_in plan slot (fields_of (slot_text slot (owner_of_slot plan slot) action)) ≡ Ok (row.Slot action)
 unfolding row_in
-row_again cores slot action some few low line =
-    let owner : slot % cores < 2 ^ 64 = omega arith in
+row_again plan slot action owner low line =
     let small : slot < 2 ^ 64 = omega arith in
-    rw (slot_fields slot (slot % cores) action small owner, numeral_of slot small, numeral_of (slot % cores) owner, action_again action line) (slot_again cores slot action low)
+    rw (slot_fields slot (owner_of_slot plan slot) action small owner, numeral_of slot small, numeral_of (owner_of_slot plan slot) owner, action_again action line)
+    (slot_again plan slot action low)
 
 end_fields : (n : ℕ) → n < 2 ^ 64 → fields_of (codes "end " ++ decimal n) ≡ codes "end" ∷ decimal n ∷ []
 end_fields n small = ap (λ (parts : List (List ℕ)). codes "end" ∷ parts) (whole_part 32 (decimal n) (decimal_lacks 32 n (omega arith) small))
@@ -38,9 +40,9 @@ end_row_again : (n : ℕ) → end_row n (decimal n) ≡ Ok row.End
 unfolding end_row
 end_row_again n = rw (same_bytes (decimal n)) refl
 
-end_again : (cores n : ℕ) → n < 2 ^ 64 → row_in cores n (fields_of (codes "end " ++ decimal n)) ≡ Ok row.End
+end_again : (plan : SlotPlan) (n : ℕ) → n < 2 ^ 64 → row_in plan n (fields_of (codes "end " ++ decimal n)) ≡ Ok row.End
 unfolding row_in
-end_again cores n small = rw (end_fields n small, numeral_of n small) (end_row_again n)
+end_again plan n small = rw (end_fields n small, numeral_of n small) (end_row_again n)
 
 -- ---- all lines
 
@@ -54,7 +56,7 @@ last_again cores done few =
     let small : length done < 2 ^ 64 = omega arith in
     let line : List ℕ = codes "end " ++ decimal n in
     let whole : lacks 10 (codes "end " ++ decimal (length done)) ≡ true = lacks_both 10 (codes "end ") (decimal n) refl (decimal_lacks 10 n (omega arith) small) in
-    ends cores done (slice_split is_newline (end_text n)) line ([] ∷ []) (line_first line [] whole) (sym (end_again cores n small))
+    ends cores done (slice_split is_newline (end_text n)) line ([] ∷ []) (line_first line [] whole) (sym (end_again (plain_plan cores) n small))
 
 pub rows_again : (cores : ℕ) (done rest : List Action) → 1 ≤ cores → cores ≤ MAX_CORES → AllByRecursion HasLine rest → length done + length rest ≤ MAX_SLOTS
     → rows_in cores done (slice_split is_newline (action_lines (plain_plan cores) (length done) rest ++ end_text (length done + length rest))) ≡ Ok (record { cores = cores; actions = done ++ rest })
@@ -63,12 +65,12 @@ rows_again cores done [] some most lines few =
     rw (add-zero, append-nil done) (last_again cores done (omega arith))
 rows_again cores done (action ∷ rest) some most lines few =
     let slot = length done in
-    let owner : slot % cores < 2 ^ 64 = omega arith in
+    let owner : owner_of_slot (plain_plan cores) slot < 2 ^ 64 = omega arith in
     let low : length done < MAX_SLOTS = omega arith in
-    let line : List ℕ = slot_text slot (slot % cores) action in
+    let line : List ℕ = slot_text slot (owner_of_slot (plain_plan cores) slot) action in
     let after : List ℕ = action_lines (plain_plan cores) (slot + 1) rest ++ end_text (slot + length (action ∷ rest)) in
-    let text : (action_line slot (slot % cores) action ++ action_lines (plain_plan cores) (slot + 1) rest) ++ end_text (slot + length (action ∷ rest)) ≡ line ++ (10 ∷ after) =
-    append_assoc (action_line slot (slot % cores) action) (action_lines (plain_plan cores) (slot + 1) rest) (end_text (slot + length (action ∷ rest))) ∙ line_is slot (slot % cores) action after in
+    let text : (action_line slot (owner_of_slot (plain_plan cores) slot) action ++ action_lines (plain_plan cores) (slot + 1) rest) ++ end_text (slot + length (action ∷ rest)) ≡ line ++ (10 ∷ after) =
+    append_assoc (action_line slot (owner_of_slot (plain_plan cores) slot) action) (action_lines (plain_plan cores) (slot + 1) rest) (end_text (slot + length (action ∷ rest))) ∙ line_is slot (owner_of_slot (plain_plan cores) slot) action after in
     let next : length (done ++ action ∷ []) ≡ slot + 1 = length-append done (action ∷ []) in
     let all : slot + 1 + length rest ≡ slot + length (action ∷ rest) = omega arith in
     let more : rows_in cores (done ++ action ∷ []) (slice_split is_newline after) ≡ Ok (record { cores = cores; actions = (done ++ action ∷ []) ++ rest }) =
@@ -77,7 +79,7 @@ rows_again cores done (action ∷ rest) some most lines few =
     (rows_again cores (done ++ action ∷ []) rest some most lines.1 (omega (arith, next)))) in
     ap (λ (bytes : List ℕ). rows_in cores done (slice_split is_newline bytes)) text
     ∙ goes_on cores done action (slice_split is_newline (line ++ (10 ∷ after))) line (slice_split is_newline after)
-    (line_first line after (slot_lacks slot (slot % cores) action (omega arith) owner lines.0)) (sym (row_again cores slot action some most low lines.0))
+    (line_first line after (slot_lacks slot (owner_of_slot (plain_plan cores) slot) action (omega arith) owner lines.0)) (sym (row_again (plain_plan cores) slot action owner low lines.0))
     ∙ more ∙ ap (λ (actions : List Action). Ok (record { cores = cores; actions = actions })) (append_assoc done (action ∷ []) rest)
 
 -- ---- the head

@@ -16,7 +16,8 @@ use Rattle.pmsi_model.specs.declared.Action.TheVariants.{Idle, Post, Fill, PostF
 use Rattle.pmsi_model.specs.declared.Name.{Name}
 use Rattle.pmsi_model.specs.declared.Name.TheVariants.{GetS, GetM, Upg}
 use Rattle.pmsi_model.specs.Lines.{action_line, action_text, kept_text, name_text}
-use Rattle.trace_text.specs.Text.{HasLine, greatest_line}
+use Rattle.trace_text.specs.declared.trace.TheConstants.{MAX_LINE}
+use Rattle.trace_text.specs.Text.{HasLine}
 use Rattle.trace_text.specs.Reading.{action_in, fields_of, has_plain_start, is_numeral, is_space, kept_in, name_in, number_in, idle_in, fill_in, long_in}
 use Rattle.trace_text.proofs.Numerals.{AreDigits, are_digits, own, some_digit}
 
@@ -106,51 +107,51 @@ is_text field text = (bytes_eq-Decides field text).0
 
 -- ---- actions
 
-line_small : (n : ℕ) → n ≤ greatest_line → n < 2 ^ 64
+line_small : (n : ℕ) → n ≤ MAX_LINE → n < 2 ^ 64
 line_small n low = omega arith
 
-line_again : (n : ℕ) → n ≤ greatest_line → number_in greatest_line (decimal n) ≡ Some n
-line_again n low = number_again greatest_line n low (line_small n low)
+line_again : (n : ℕ) → n ≤ MAX_LINE → number_in MAX_LINE (decimal n) ≡ Some n
+line_again n low = number_again MAX_LINE n low (line_small n low)
 
-one_more : (n : ℕ) → n ≤ greatest_line → slice_split is_space (decimal n) ≡ decimal n ∷ []
+one_more : (n : ℕ) → n ≤ MAX_LINE → slice_split is_space (decimal n) ≡ decimal n ∷ []
 one_more n low = whole_part 32 (decimal n) (decimal_lacks 32 n (omega arith) (line_small n low))
 
 back_text : (n : ℕ) (kept : Bool) → action_text (Back n kept) ≡ codes "back " ++ (decimal n ++ (32 ∷ kept_text kept))
 back_text n kept = simp append_assoc
 
-back_fields : (n : ℕ) (kept : Bool) → n ≤ greatest_line → slice_split is_space (kept_text kept) ≡ kept_text kept ∷ [] → fields_of (action_text (Back n kept)) ≡ codes "back" ∷ decimal n ∷ kept_text kept ∷ []
+back_fields : (n : ℕ) (kept : Bool) → n ≤ MAX_LINE → slice_split is_space (kept_text kept) ≡ kept_text kept ∷ [] → fields_of (action_text (Back n kept)) ≡ codes "back" ∷ decimal n ∷ kept_text kept ∷ []
 back_fields n kept low whole =
     ap fields_of (back_text n kept)
     ∙ ap (λ (parts : List (List ℕ)). codes "back" ∷ parts) (cut_at 32 (decimal n) (kept_text kept) (decimal_lacks 32 n (omega arith) (line_small n low)) ∙ ap (λ (parts : List (List ℕ)). decimal n ∷ parts) whole)
 
-post_again : (n : ℕ) (name : Name) → n ≤ greatest_line → long_in (codes "post") (name_text name) (decimal n) ≡ Some (Post name n)
+post_again : (n : ℕ) (name : Name) → n ≤ MAX_LINE → long_in (codes "post") (name_text name) (decimal n) ≡ Some (Post name n)
 unfolding long_in name_in
 post_again n GetS low = rw (line_again n low) refl
 post_again n GetM low = rw (line_again n low) refl
 post_again n Upg low = rw (line_again n low) refl
 
-postfill_again : (n : ℕ) (name : Name) → n ≤ greatest_line → long_in (codes "postfill") (name_text name) (decimal n) ≡ Some (PostFill name n)
+postfill_again : (n : ℕ) (name : Name) → n ≤ MAX_LINE → long_in (codes "postfill") (name_text name) (decimal n) ≡ Some (PostFill name n)
 unfolding long_in name_in
 postfill_again n GetS low = rw (line_again n low) refl
 postfill_again n GetM low = rw (line_again n low) refl
 postfill_again n Upg low = rw (line_again n low) refl
 
-back_again : (n : ℕ) (kept : Bool) → n ≤ greatest_line → long_in (codes "back") (decimal n) (kept_text kept) ≡ Some (Back n kept)
+back_again : (n : ℕ) (kept : Bool) → n ≤ MAX_LINE → long_in (codes "back") (decimal n) (kept_text kept) ≡ Some (Back n kept)
 unfolding long_in kept_in
 back_again n true low = rw (line_again n low) refl
 back_again n false low = rw (line_again n low) refl
 
-post_fields : (n : ℕ) (name : Name) → n ≤ greatest_line → fields_of (action_text (Post name n)) ≡ codes "post" ∷ name_text name ∷ decimal n ∷ []
+post_fields : (n : ℕ) (name : Name) → n ≤ MAX_LINE → fields_of (action_text (Post name n)) ≡ codes "post" ∷ name_text name ∷ decimal n ∷ []
 post_fields n GetS low = ap (λ (parts : List (List ℕ)). codes "post" ∷ codes "GetS" ∷ parts) (one_more n low)
 post_fields n GetM low = ap (λ (parts : List (List ℕ)). codes "post" ∷ codes "GetM" ∷ parts) (one_more n low)
 post_fields n Upg low = ap (λ (parts : List (List ℕ)). codes "post" ∷ codes "Upg" ∷ parts) (one_more n low)
 
-postfill_fields : (n : ℕ) (name : Name) → n ≤ greatest_line → fields_of (action_text (PostFill name n)) ≡ codes "postfill" ∷ name_text name ∷ decimal n ∷ []
+postfill_fields : (n : ℕ) (name : Name) → n ≤ MAX_LINE → fields_of (action_text (PostFill name n)) ≡ codes "postfill" ∷ name_text name ∷ decimal n ∷ []
 postfill_fields n GetS low = ap (λ (parts : List (List ℕ)). codes "postfill" ∷ codes "GetS" ∷ parts) (one_more n low)
 postfill_fields n GetM low = ap (λ (parts : List (List ℕ)). codes "postfill" ∷ codes "GetM" ∷ parts) (one_more n low)
 postfill_fields n Upg low = ap (λ (parts : List (List ℕ)). codes "postfill" ∷ codes "Upg" ∷ parts) (one_more n low)
 
-fill_again : (n : ℕ) → n ≤ greatest_line → fill_in (codes "fill") (decimal n) ≡ Some (Fill n)
+fill_again : (n : ℕ) → n ≤ MAX_LINE → fill_in (codes "fill") (decimal n) ≡ Some (Fill n)
 unfolding fill_in
 fill_again n low = rw (line_again n low) refl
 
@@ -167,10 +168,10 @@ action_again (PostFill name n) low = ap action_in (postfill_fields n name low) �
 action_again (Back n true) low = ap action_in (back_fields n true low refl) ∙ back_again n true low
 action_again (Back n false) low = ap action_in (back_fields n false low refl) ∙ back_again n false low
 
-line_lacks : (n : ℕ) → n ≤ greatest_line → lacks 10 (decimal n) ≡ true
+line_lacks : (n : ℕ) → n ≤ MAX_LINE → lacks 10 (decimal n) ≡ true
 line_lacks n low = decimal_lacks 10 n (omega arith) (line_small n low)
 
-back_lacks : (n : ℕ) (kept : Bool) → n ≤ greatest_line → lacks 10 (kept_text kept) ≡ true → lacks 10 (action_text (Back n kept)) ≡ true
+back_lacks : (n : ℕ) (kept : Bool) → n ≤ MAX_LINE → lacks 10 (kept_text kept) ≡ true → lacks 10 (action_text (Back n kept)) ≡ true
 back_lacks n kept low whole = ap (lacks 10) (back_text n kept) ∙ lacks_both 10 (codes "back ") (decimal n ++ (32 ∷ kept_text kept)) refl (lacks_both 10 (decimal n) (32 ∷ kept_text kept) (line_lacks n low) whole)
 
 pub action_lacks : (action : Action) → HasLine action → lacks 10 (action_text action) ≡ true

@@ -1,7 +1,7 @@
 -- What bytes say of a trace: a trace, or the first fault from the top. A line ends with its newline; what stands behind the
 -- last newline is no line. Fields are parted by single blanks, and a number has no leading zeros, so that a line says one
 -- thing at most, and each thing has one spelling.
-use Rattle.std.specs.Prelude.{◌≡◌, ℕ, ◌+◌, ◌%◌, Bool, true, false, not, ◌&&◌, ◌==◌, nat_le, if◌then◌else◌, List, [], ◌∷◌, ◌++◌, length, codes, decimal, Option, Some, None, Result, Ok, Err}
+use Rattle.std.specs.Prelude.{◌≡◌, ℕ, ◌+◌, Bool, true, false, not, ◌&&◌, ◌==◌, nat_le, if◌then◌else◌, List, [], ◌∷◌, ◌++◌, length, codes, decimal, Option, Some, None, Result, Ok, Err}
 use Rattle.std.specs.Char.{is_ascii_digit}
 use Rattle.std.specs.List.{list_all, slice_split}
 use Rattle.std.specs.Option.{option_map}
@@ -12,12 +12,13 @@ use Rattle.pmsi_model.specs.declared.Action.TheVariants.{Idle, Post, Fill, PostF
 use Rattle.pmsi_model.specs.declared.Name.{Name}
 use Rattle.pmsi_model.specs.declared.Name.TheVariants.{GetS, GetM, Upg}
 use Rattle.pmsi_model.specs.declared.limits.TheConstants.{MAX_CORES, MAX_SLOTS}
+use Rattle.pmsi_model.specs.Slots.{SlotPlan, owner_of_slot, plain_plan}
 use Rattle.trace_text.specs.declared.fault.TraceFault.{TraceFault}
 use Rattle.trace_text.specs.declared.fault.TraceFault.TheVariants.{Line, Order, End}
 use Rattle.trace_text.specs.declared.row.Row.{Row}
 use Rattle.trace_text.specs.declared.row.Row.TheVariants as row
 use Rattle.trace_text.specs.declared.trace.Trace.{Trace}
-use Rattle.trace_text.specs.Text.{greatest_line}
+use Rattle.trace_text.specs.declared.trace.TheConstants.{MAX_LINE}
 
 -- ---- numbers
 
@@ -56,13 +57,13 @@ unfoldable pub idle_in : List ℕ → Option Action
 idle_in what = if bytes_eq what (codes "idle") then Some Idle else None
 
 unfoldable pub fill_in : List ℕ → List ℕ → Option Action
-fill_in what line = if bytes_eq what (codes "fill") then option_map Fill (number_in greatest_line line) else None
+fill_in what line = if bytes_eq what (codes "fill") then option_map Fill (number_in MAX_LINE line) else None
 
 unfoldable pub long_in : List ℕ → List ℕ → List ℕ → Option Action
 long_in what first second =
-    if bytes_eq what (codes "post") then both Post (name_in first) (number_in greatest_line second)
-    else if bytes_eq what (codes "postfill") then both PostFill (name_in first) (number_in greatest_line second)
-    else if bytes_eq what (codes "back") then both Back (number_in greatest_line first) (kept_in second)
+    if bytes_eq what (codes "post") then both Post (name_in first) (number_in MAX_LINE second)
+    else if bytes_eq what (codes "postfill") then both PostFill (name_in first) (number_in MAX_LINE second)
+    else if bytes_eq what (codes "back") then both Back (number_in MAX_LINE first) (kept_in second)
     else None
 
 abbrev pub action_in : List (List ℕ) → Option Action
@@ -89,11 +90,11 @@ line_of_slot slot = slot + 3
 
 -- a line that names a slot and a core, and does or doesn't tell an action. Numbers have one spelling each, so they are
 -- compared by it
-unfoldable pub slot_row : ℕ → ℕ → List ℕ → List ℕ → Option Action → Result Row TraceFault
-slot_row cores slot number core None = Err (Line (line_of_slot slot))
-slot_row cores slot number core (Some action) =
+unfoldable pub slot_row : SlotPlan → ℕ → List ℕ → List ℕ → Option Action → Result Row TraceFault
+slot_row plan slot number core None = Err (Line (line_of_slot slot))
+slot_row plan slot number core (Some action) =
     if nat_le MAX_SLOTS slot then Err (Line (line_of_slot slot))
-    else if bytes_eq number (decimal slot) && bytes_eq core (decimal (slot % cores)) then Ok (row.Slot action)
+    else if bytes_eq number (decimal slot) && bytes_eq core (decimal (owner_of_slot plan slot)) then Ok (row.Slot action)
     else Err (Order (line_of_slot slot))
 
 -- a line that names the number of slots
@@ -101,15 +102,15 @@ unfoldable pub end_row : ℕ → List ℕ → Result Row TraceFault
 end_row slot number = if bytes_eq number (decimal slot) then Ok row.End else Err End
 
 -- the line behind those of the slots before this one: `slot S core C ACTION` or `end K`
-unfoldable pub row_in : ℕ → ℕ → List (List ℕ) → Result Row TraceFault
-row_in cores slot [] = Err (Line (line_of_slot slot))
-row_in cores slot (word ∷ []) = Err (Line (line_of_slot slot))
-row_in cores slot (word ∷ number ∷ []) =
+unfoldable pub row_in : SlotPlan → ℕ → List (List ℕ) → Result Row TraceFault
+row_in plan slot [] = Err (Line (line_of_slot slot))
+row_in plan slot (word ∷ []) = Err (Line (line_of_slot slot))
+row_in plan slot (word ∷ number ∷ []) =
     if bytes_eq word (codes "end") && is_numeral number then end_row slot number else Err (Line (line_of_slot slot))
-row_in cores slot (word ∷ number ∷ name ∷ []) = Err (Line (line_of_slot slot))
-row_in cores slot (word ∷ number ∷ name ∷ core ∷ action) =
+row_in plan slot (word ∷ number ∷ name ∷ []) = Err (Line (line_of_slot slot))
+row_in plan slot (word ∷ number ∷ name ∷ core ∷ action) =
     if bytes_eq word (codes "slot") && is_numeral number && bytes_eq name (codes "core") && is_numeral core
-    then slot_row cores slot number core (action_in action) else Err (Line (line_of_slot slot))
+    then slot_row plan slot number core (action_in action) else Err (Line (line_of_slot slot))
 
 -- ---- the whole
 
@@ -144,7 +145,7 @@ unfoldable pub rows_in : ℕ → List Action → List (List ℕ) → Result Trac
 rows_in cores actions [] = Err End
 rows_in cores actions (rest ∷ []) = Err End
 rows_in cores actions (line ∷ next ∷ more) =
-    on_row (row_in cores (length actions) (fields_of line)) (ended (record { cores = cores; actions = actions }) (next ∷ more))
+    on_row (row_in (plain_plan cores) (length actions) (fields_of line)) (ended (record { cores = cores; actions = actions }) (next ∷ more))
     (λ action. rows_in cores (actions ++ action ∷ []) (next ∷ more))
 
 -- `cores N`

@@ -6,6 +6,7 @@ use Rattle.pmsi_model.specs.declared.Action.TheVariants.{Idle, Post, Fill, PostF
 use Rattle.pmsi_model.specs.declared.limits.TheConstants.{MAX_CORES, MAX_SLOTS}
 use Rattle.pmsi_model.specs.Lines.{action_lines}
 use Rattle.pmsi_model.specs.Slots.{plain_plan}
+use Rattle.trace_text.specs.declared.trace.TheConstants.{MAX_LINE}
 use Rattle.trace_text.specs.declared.trace.Trace.{Trace}
 
 -- `pmsi trace 1` and `cores N`
@@ -20,16 +21,13 @@ end_text count = codes "end " ++ decimal count ++ codes "\n"
 unfoldable pub trace_of : Trace → List ℕ
 trace_of trace = head_text trace.cores ++ action_lines (plain_plan trace.cores) 0 trace.actions ++ end_text (length trace.actions)
 
--- the greatest number of a line: memory is at most 1,048,576 bytes, in lines of 16 bytes at least
-abbrev pub greatest_line : ℕ
-greatest_line = 65535
-
+-- its line is one that a memory can have
 abbrev pub HasLine : Action → Type 0
 HasLine Idle = Unit {0}
-HasLine (Post name line) = line ≤ greatest_line
-HasLine (Fill line) = line ≤ greatest_line
-HasLine (PostFill name line) = line ≤ greatest_line
-HasLine (Back line kept) = line ≤ greatest_line
+HasLine (Post name line) = line ≤ MAX_LINE
+HasLine (Fill line) = line ≤ MAX_LINE
+HasLine (PostFill name line) = line ≤ MAX_LINE
+HasLine (Back line kept) = line ≤ MAX_LINE
 
 -- within the limits
 pub record IsTrace (trace : Trace) : Type 0 where

@@ -5,10 +5,8 @@ ghost use Rattle.trace_text.specs.Reading.{action_in, fill_in, idle_in, kept_in,
 
 use crate::fields::{is_word, number_in};
 use crate::parts::Parts;
+use crate::trace::MAX_LINE;
 use pmsi_model::{Action, Name};
-
-/// The greatest number of a line: memory is at most 1,048,576 bytes, in lines of 16 bytes at least.
-const GREATEST_LINE: u32 = 65_535;
 
 #[tactic(auto, unfolding(crate::specs::Reading::name_in))]
 fn name_in(field: &[u8]) -> Option<Name>
@@ -55,7 +53,7 @@ fn fill_in(what: &[u8], line: &[u8]) -> Option<Action>
     ensures { result ≡ fill_in what.now line.now }
 {
     if is_word(what, "fill") {
-        Some(Action::Fill(number_in(line, GREATEST_LINE)?))
+        Some(Action::Fill(number_in(line, MAX_LINE)?))
     } else {
         None
     }
@@ -67,11 +65,11 @@ fn long_in(what: &[u8], first: &[u8], second: &[u8]) -> Option<Action>
     ensures { result ≡ long_in what.now first.now second.now }
 {
     if is_word(what, "post") {
-        Some(Action::Post(name_in(first)?, number_in(second, GREATEST_LINE)?))
+        Some(Action::Post(name_in(first)?, number_in(second, MAX_LINE)?))
     } else if is_word(what, "postfill") {
-        Some(Action::PostFill(name_in(first)?, number_in(second, GREATEST_LINE)?))
+        Some(Action::PostFill(name_in(first)?, number_in(second, MAX_LINE)?))
     } else if is_word(what, "back") {
-        Some(Action::Back(number_in(first, GREATEST_LINE)?, kept_in(second)?))
+        Some(Action::Back(number_in(first, MAX_LINE)?, kept_in(second)?))
     } else {
         None
     }

@@ -1,6 +1,6 @@
 //! Fields: words and numbers.
 
-ghost use Rattle.std.specs.Prelude.{◌≡◌, decimal};
+ghost use Rattle.std.specs.Prelude.{◌≡◌, ◌≤◌, IfSome, decimal};
 ghost use Rattle.std.specs.Char.{is_ascii_digit};
 ghost use Rattle.std.specs.List.{list_all};
 ghost use Rattle.std.specs.Str.{bytes_eq};
@@ -47,7 +47,8 @@ pub(crate) fn is_number(field: &[u8], number: u32) -> bool
 /// The number that a field is, where it is one up to this limit.
 #[tactic(auto, unfolding(crate::specs::Reading::number_in))]
 pub(crate) fn number_in(field: &[u8], most: u32) -> Option<u32>
-    ensures { result ≡ number_in most field.now }
+    ensures value { result ≡ number_in most field.now }
+    ensures within { IfSome result (λ number. number ≤ most) }
 {
     if !is_numeral(field) {
         return None;

@@ -16,5 +16,5 @@ mod writing;
 
 pub use fault::TraceFault;
 pub use reading::read_trace;
-pub use trace::{Actions, Trace};
-pub use writing::{push_action_line, write_actions, write_trace};
+pub use trace::{Actions, MAX_LINE, Trace};
+pub use writing::{push_action_lines, write_actions, write_trace};

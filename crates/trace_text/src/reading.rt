@@ -1,7 +1,7 @@
 //! Reads traces.
 
 ghost use Rattle.std.specs.Prelude.{◌≡◌, ◌≢◌, ◌⊎◌, ◌≤◌, [], length, Ok, Err, IfOk, IfErr, IfSome};
-ghost use Rattle.pmsi_model.specs.declared.limits.TheConstants.{MAX_FILE_BYTES};
+ghost use Rattle.pmsi_model.specs.declared.limits.TheConstants.{MAX_CORES, MAX_FILE_BYTES};
 ghost use Rattle.trace_text.specs.declared.fault.TraceFault.{TraceFault};
 ghost use Rattle.trace_text.specs.declared.trace.Trace.{Trace};
 ghost use Rattle.trace_text.specs.Reading.{HasTraceFault, cores_in, fields_of, reading_of, rows_in};
@@ -12,8 +12,8 @@ use crate::fields::{is_word, number_in};
 use crate::parts::Parts;
 use crate::row::{Row, read_row};
 use crate::trace::{Actions, Trace};
-use pmsi_model::Action;
 use pmsi_model::limits::MAX_CORES;
+use pmsi_model::{Action, SlotTable};
 use std::alloc::Global;
 
 /// Reads a trace: the actions that the lines tell, or the first thing that is wrong with the bytes, from the top.
@@ -65,6 +65,7 @@ fn trace_in(alloc: Global, bytes: &[u8]) -> Result<Trace, TraceFault>
 fn cores_in(line: &[u8]) -> Option<u32>
     ensures value { result ≡ cores_in (fields_of line.now) }
     ensures some { IfSome result (λ cores. 1 ≤ cores) }
+    ensures few { IfSome result (λ cores. cores ≤ MAX_CORES) }
 {
     let mut fields = Parts::new(line, b' ');
     let word = fields.next()?;
@@ -80,13 +81,15 @@ fn cores_in(line: &[u8]) -> Option<u32>
 
 /// The actions of all slots.
 fn read_actions(alloc: Global, cores: u32, lines: &mut Parts<'_>) -> Result<Vec<Action>, TraceFault>
-    requires { 1 ≤ cores }
+    requires some { 1 ≤ cores }
+    requires few { cores ≤ MAX_CORES }
     ensures trace { IfOk result (λ actions. rows_in cores [] lines.old ≡ Ok (record { cores = cores; actions = actions.items })) }
     ensures fault { IfErr result (λ fault. fault ≢ TraceFault.NoMemory → rows_in cores [] lines.old ≡ Err fault) }
 {
+    let table = SlotTable::plain(cores);
     let mut actions = Vec::new(alloc);
     while let Some(line) = lines.next_line() {
-        match read_row(cores, actions.len() as u32, line) {
+        match read_row(&table, actions.len() as u32, line) {
             Ok(Row::Slot(action)) => actions.push(action)?,
             Ok(Row::End) if lines.is_last() => return Ok(actions),
             Ok(Row::End) => return Err(TraceFault::End),

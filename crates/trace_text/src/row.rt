@@ -1,15 +1,16 @@
 //! One line behind the first two.
 
-ghost use Rattle.std.specs.Prelude.{◌≡◌, ◌≤◌, Option};
-ghost use Rattle.pmsi_model.specs.declared.limits.TheConstants.{MAX_CORES, MAX_SLOTS};
+ghost use Rattle.std.specs.Prelude.{◌≡◌, ◌≤◌};
+ghost use Rattle.pmsi_model.specs.declared.limits.TheConstants.{MAX_SLOTS};
 ghost use Rattle.trace_text.specs.Reading.{fields_of, row_in, end_row, line_of_slot, slot_row};
 
 use crate::actions::action_in;
 use crate::fault::TraceFault;
 use crate::fields::{is_number, is_numeral, is_word};
 use crate::parts::Parts;
-use pmsi_model::Action;
 use pmsi_model::limits::MAX_SLOTS;
+use pmsi_model::{Action, SlotTable};
+use slot_plan::owner;
 
 /// What a line behind the first two says.
 #[derive(Clone, Copy, Debug, PartialEq, Eq)]
@@ -29,15 +30,14 @@ fn line_of_slot(slot: u32) -> u32
 /// Judges a line that names a slot and a core.
 #[tactic(auto, unfolding(crate::specs::Reading::slot_row))]
 fn slot_row(
-    cores: u32,
+    table: &SlotTable,
     slot: u32,
     number: &[u8],
     core: &[u8],
     action: Option<Action>,
 ) -> Result<Row, TraceFault>
-    requires cores { 1 ≤ cores }
-    requires slot { slot ≤ MAX_SLOTS }
-    ensures { result ≡ slot_row cores slot number.now core.now action }
+    requires { slot ≤ MAX_SLOTS }
+    ensures { result ≡ slot_row table.now slot number.now core.now action }
 {
     let Some(action) = action else {
         return Err(TraceFault::Line(line_of_slot(slot)));
@@ -45,7 +45,7 @@ fn slot_row(
     if slot >= MAX_SLOTS {
         return Err(TraceFault::Line(line_of_slot(slot)));
     }
-    if is_number(number, slot) && is_number(core, slot % cores) {
+    if is_number(number, slot) && is_number(core, owner(table, slot)) {
         Ok(Row::Slot(action))
     } else {
         Err(TraceFault::Order(line_of_slot(slot)))
@@ -66,10 +66,9 @@ fn end_row(slot: u32, number: &[u8]) -> Result<Row, TraceFault>
 
 /// Reads the line behind those of the slots before this one.
 #[tactic(auto, unfolding(crate::specs::Reading::row_in))]
-pub(crate) fn read_row(cores: u32, slot: u32, line: &[u8]) -> Result<Row, TraceFault>
-    requires cores { 1 ≤ cores }
-    requires slot { slot ≤ MAX_SLOTS }
-    ensures { result ≡ row_in cores slot (fields_of line.now) }
+pub(crate) fn read_row(table: &SlotTable, slot: u32, line: &[u8]) -> Result<Row, TraceFault>
+    requires { slot ≤ MAX_SLOTS }
+    ensures { result ≡ row_in table.now slot (fields_of line.now) }
 {
     let unformed = TraceFault::Line(line_of_slot(slot));
     let mut fields = Parts::new(line, b' ');
@@ -90,7 +89,7 @@ pub(crate) fn read_row(cores: u32, slot: u32, line: &[u8]) -> Result<Row, TraceF
         return Err(unformed);
     };
     if is_word(word, "slot") && is_numeral(number) && is_word(name, "core") && is_numeral(core) {
-        slot_row(cores, slot, number, core, action_in(&mut fields))
+        slot_row(table, slot, number, core, action_in(&mut fields))
     } else {
         Err(unformed)
     }

@@ -2,6 +2,9 @@
 
 use pmsi_model::{Action, Sequence};
 
+/// The greatest number of a line: memory has at most 1,048,576 bytes, in lines of at least 16.
+pub const MAX_LINE: u32 = 65_535;
+
 /// Actions, one per slot.
 pub type Actions = Sequence<Action>;
 

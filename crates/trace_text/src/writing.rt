@@ -3,11 +3,11 @@
 ghost use Rattle.std.specs.Prelude.{◌≡◌, ◌≤◌, ◌++◌, length, codes, decimal, IfOk, OnOk};
 ghost use Rattle.pmsi_model.specs.declared.limits.TheConstants.{MAX_SLOTS};
 ghost use Rattle.pmsi_model.specs.Lines.{action_line, action_lines, action_text, kept_text, name_text};
-ghost use Rattle.pmsi_model.specs.Slots.{plain_plan};
 ghost use Rattle.trace_text.specs.Text.{IsTrace, end_text, head_text, trace_of};
 
 use crate::trace::Trace;
-use pmsi_model::{Action, Name, NoMemory};
+use pmsi_model::{Action, Name, NoMemory, SlotTable};
+use slot_plan::owner;
 use std::alloc::{AllocError, Global};
 use text_out::{push_field, push_newline, push_text};
 
@@ -16,28 +16,31 @@ pub fn write_trace(alloc: Global, trace: &Trace) -> Result<Vec<u8>, NoMemory>
     requires { IsTrace trace.now }
     ensures { IfOk result (λ text. text.items ≡ trace_of trace.now) }
 {
-    write_actions(alloc, trace.cores, trace.actions.as_slice())
+    let table = SlotTable::plain(trace.cores);
+    write_actions(alloc, &table, trace.actions.as_slice())
 }
 
-/// The text of the trace that has these actions, without a copy of them.
-pub fn write_actions(alloc: Global, cores: u32, actions: &[Action]) -> Result<Vec<u8>, NoMemory>
-    requires cores { 1 ≤ cores }
-    requires slots { length actions.now ≤ MAX_SLOTS }
-    ensures { IfOk result (λ text. text.items ≡ trace_of (record { cores = cores; actions = actions.now })) }
+/// The text of the trace of a bus with these slots that has these actions, without a copy of them.
+pub fn write_actions(
+    alloc: Global,
+    table: &SlotTable,
+    actions: &[Action],
+) -> Result<Vec<u8>, NoMemory>
+    requires { length actions.now ≤ MAX_SLOTS }
+    ensures { IfOk result (λ text. text.items ≡ trace_of (record { cores = table.now.cores; actions = actions.now })) }
 {
     let mut out = Vec::new(alloc);
-    push_trace(&mut out, cores, actions)?;
+    push_trace(&mut out, table, actions)?;
     Ok(out)
 }
 
 #[tactic(auto, unfolding(crate::specs::Text::trace_of))]
-fn push_trace(out: &mut Vec<u8>, cores: u32, actions: &[Action]) -> Result<(), AllocError>
-    requires cores { 1 ≤ cores }
-    requires slots { length actions.now ≤ MAX_SLOTS }
-    ensures { OnOk result (out.new.items ≡ out.old.items ++ trace_of (record { cores = cores; actions = actions.now })) }
+fn push_trace(out: &mut Vec<u8>, table: &SlotTable, actions: &[Action]) -> Result<(), AllocError>
+    requires { length actions.now ≤ MAX_SLOTS }
+    ensures { OnOk result (out.new.items ≡ out.old.items ++ trace_of (record { cores = table.now.cores; actions = actions.now })) }
 {
-    push_head(out, cores)?;
-    push_action_lines(out, cores, actions)?;
+    push_head(out, table.cores())?;
+    push_action_lines(out, table, actions)?;
     push_end(out, actions.len() as u64)
 }
 
@@ -56,22 +59,25 @@ fn push_end(out: &mut Vec<u8>, count: u64) -> Result<(), AllocError>
     push_newline(out)
 }
 
-/// Appends the line of each action, the first that of slot 0.
-fn push_action_lines(out: &mut Vec<u8>, cores: u32, actions: &[Action]) -> Result<(), AllocError>
-    requires cores { 1 ≤ cores }
-    requires slots { length actions.now ≤ MAX_SLOTS }
-    ensures { OnOk result (out.new.items ≡ out.old.items ++ action_lines (plain_plan cores) 0 actions.now) }
+/// Appends the lines of the actions of the first slots, each with the slot's owner. Listings have these lines too.
+pub fn push_action_lines(
+    out: &mut Vec<u8>,
+    table: &SlotTable,
+    actions: &[Action],
+) -> Result<(), AllocError>
+    requires { length actions.now ≤ MAX_SLOTS }
+    ensures { OnOk result (out.new.items ≡ out.old.items ++ action_lines table.now 0 actions.now) }
 {
     for (place, action) in actions.iter().enumerate() {
         let slot = place as u32;
-        push_action_line(out, slot, slot % cores, *action)?;
+        push_action_line(out, slot, owner(table, slot), *action)?;
     }
     Ok(())
 }
 
-/// Appends the line of an action, which a core did in a slot. Listings have these lines too.
+/// Appends the line of an action, which a core did in a slot.
 #[tactic(auto, unfolding(pmsi_model::specs::Lines::action_line))]
-pub fn push_action_line(
+fn push_action_line(
     out: &mut Vec<u8>,
     slot: u32,
     core: u32,
