@@ -2,10 +2,10 @@
 
 ghost use Rattle.std.specs.Prelude.{◌≡◌, ◌≤◌, ◌<◌, ◌+◌, ℕ, min};
 ghost use Rattle.std.specs.List.{All};
+ghost use Rattle.pmsi_model.specs.declared.limits.TheConstants.{MAX_SLOTS};
 ghost use Rattle.pmsi_model.specs.Job.{JobValue};
 ghost use Rattle.pmsi_model.specs.Run.{machine_at};
 ghost use Rattle.sim_serial.specs.Sims.{IsSimOf, shape_of};
-ghost use Rattle.script_text.specs.declared.limits.TheConstants.{MAX_STEP};
 ghost use Rattle.script_text.specs.Output.{go_end, holds, holds_any, is_running};
 
 use pmsi_model::Status;
@@ -14,7 +14,7 @@ use sim_serial::Sim;
 
 /// Takes so many slots, or those that are left.
 pub(crate) fn step(sim: &mut Sim, slots: u32)
-    requires { slots ≤ MAX_STEP }
+    requires { slots ≤ MAX_SLOTS }
     ensures machine { (job : JobValue) (slot : ℕ) → IsSimOf job slot sim.old → IsSimOf job (min (slot + slots) job.shape.slots) sim.new }
     ensures shape { shape_of sim.new ≡ shape_of sim.old }
 {

@@ -5,6 +5,7 @@ use Rattle.std.specs.List.{list_all}
 use Rattle.std.specs.Str.{bytes_eq, is_utf8}
 use Rattle.std.specs.Str.Parse.{digits_value}
 use Rattle.pmsi_model.specs.declared.job.Geometry.{Geometry}
+use Rattle.pmsi_model.specs.declared.limits.TheConstants.{MAX_COMMANDS, MAX_SLOTS}
 use Rattle.pmsi_model.specs.Geometry.{line_bytes}
 use Rattle.job_text.specs.Cutting.{Row, has_some, rows_of}
 use Rattle.job_text.specs.Sayings.{only_field}
@@ -20,7 +21,6 @@ use Rattle.script_text.specs.declared.fault.ScriptCause.{ScriptCause}
 use Rattle.script_text.specs.declared.fault.ScriptCause.TheVariants as cause
 use Rattle.script_text.specs.declared.fault.ScriptFault.{ScriptFault}
 use Rattle.script_text.specs.declared.fault.ScriptFault.TheVariants.{NotText, Line}
-use Rattle.script_text.specs.declared.limits.TheConstants.{MAX_COMMANDS, MAX_STEP}
 
 -- ---- numbers
 
@@ -64,7 +64,7 @@ two_of two.State c n = State c n
 -- the machine of the shape has the core, the line, the aligned address of a word; a step has a slot, and not too many.
 -- A break may have any pc
 abbrev pub is_in_range : Geometry → Command → Bool
-is_in_range shape (Step k) = nat_le 1 k && nat_le k MAX_STEP
+is_in_range shape (Step k) = nat_le 1 k && nat_le k MAX_SLOTS
 is_in_range shape (Break b) = nat_lt b.core shape.cores
 is_in_range shape Go = true
 is_in_range shape (Regs c) = nat_lt c shape.cores

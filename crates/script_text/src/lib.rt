@@ -5,12 +5,10 @@
 mod command;
 pub mod examples;
 mod fault;
-mod limits;
 mod line;
 mod numbers;
 mod script;
 
 pub use command::{Breakpoint, Command};
 pub use fault::{ScriptCause, ScriptFault};
-pub use limits::{MAX_COMMANDS, MAX_STEP};
 pub use script::read_script;

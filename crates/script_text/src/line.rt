@@ -9,10 +9,10 @@ ghost use Rattle.job_text.specs.Sayings.{only_field};
 
 use crate::command::{Breakpoint, Command, OneNumber, TwoNumbers, Verb};
 use crate::fault::ScriptCause;
-use crate::limits::{MAX_COMMANDS, MAX_STEP};
 use crate::numbers::number_in;
 use job_text::{next_field, only_field};
 use pmsi_model::Geometry;
+use pmsi_model::limits::{MAX_COMMANDS, MAX_SLOTS};
 
 /// The command that a line tells behind so many commands: its first field, and what stands after it.
 #[tactic(auto, unfolding(crate::specs::Script::command_in))]
@@ -143,7 +143,7 @@ fn is_in_range(shape: &Geometry, command: Command) -> bool
     ensures { result ≡ is_in_range shape.now command }
 {
     match command {
-        Command::Step(slots) => 1 <= slots && slots <= MAX_STEP,
+        Command::Step(slots) => 1 <= slots && slots <= MAX_SLOTS,
         Command::Break(at) => at.core < shape.cores,
         Command::Go => true,
         Command::Regs(c) | Command::Held(c) | Command::Left(c) => c < shape.cores,
