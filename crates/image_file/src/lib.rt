@@ -12,6 +12,3 @@ pub use fault::ImageFault;
 pub use laws::{bytes_of_an_image, four_bytes, image_or_fault};
 pub use reading::read_image;
 pub use writing::write_image;
-
-#[cfg(test)]
-mod tests;

@@ -8,14 +8,17 @@ use std::sync::Wait;
 use std::test::Fail;
 use std::thread::Threads;
 
+mod asked;
 mod asm;
 mod commands;
 mod failing;
 mod faults;
+mod images;
 mod jobs;
 mod machines;
 mod runs;
 mod steps;
+mod traces;
 mod words;
 mod workers;
 

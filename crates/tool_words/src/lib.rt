@@ -7,8 +7,6 @@ ghost use Rattle.tool_words.specs.Canonical.{AllowedAlwaysMean, CanonicalMeansTa
 mod asked;
 mod read;
 mod table;
-#[cfg(test)]
-mod tests;
 
 pub use asked::Asked;
 pub use read::asked_of;

@@ -9,8 +9,6 @@ pub mod laws;
 mod parts;
 mod reading;
 mod row;
-#[cfg(test)]
-mod tests;
 mod trace;
 mod writing;
 

@@ -1,7 +1,7 @@
 //! Calls by their words, and what they ask for.
-use crate::{Asked, asked_of};
 use pmsi_model::Keep;
 use std::alloc::{AllocError, Global};
+use tool_words::{Asked, asked_of};
 
 fn list(alloc: Global, texts: &[&str]) -> Result<Vec<String>, AllocError> {
     let mut words = Vec::new(alloc);

@@ -1,7 +1,8 @@
+//! Images as bytes.
 ghost use Rattle.std.specs.Prelude.{◌≤◌, length};
 ghost use Rattle.pmsi_model.specs.declared.limits.TheConstants.{MAX_FILE_BYTES};
 
-use super::*;
+use image_file::{ImageFault, read_image, write_image};
 use std::alloc::Global;
 use std::process::Abort;
 use std::test::*;

@@ -1,13 +1,10 @@
 //! A trace as text, each front of it, and texts with each fault.
-ghost use Rattle.std.specs.Prelude.{◌≤◌, length};
-ghost use Rattle.pmsi_model.specs.declared.limits.TheConstants.{MAX_FILE_BYTES};
-ghost use Rattle.trace_text.specs.Text.{IsTrace};
 
-use super::*;
 use pmsi_model::{Action, Name};
 use std::alloc::Global;
 use std::process::Abort;
 use std::test::Fail;
+use trace_text::{TraceFault, read_trace, write_trace};
 
 /// The trace of `reader_behind_an_owner`, a job of two cores in the examples of pmsi_model.
 const TEXT: &str = "\
