@@ -11,6 +11,7 @@ use Rattle.clap.specs.Faults.{built_fault, turn_fault, step_fault, word_fault, w
 use Rattle.std.specs.Option.{option_map_or}
 use Rattle.std.specs.Str.{bytes_eq}
 use Rattle.std.proofs.lemmas.Slice.Eq.{bytes_eq-Decides}
+use Rattle.std.proofs.Math.Bool.{and-false}
 use Rattle.tool_words.specs.declared.table.Choice.{Choice}
 use Rattle.tool_words.specs.declared.table.Choice.TheVariants as choice
 use Rattle.tool_words.specs.declared.table.Place.{Place}
@@ -18,9 +19,6 @@ use Rattle.tool_words.specs.Table.{choice_id, place_id}
 use Rattle.tool_words.specs.Clap.{choice_rule, place_rule, found_where}
 
 -- ---- words that don't begin with `-`
-
-no_long : (byte : ℕ) (rest : Text) → (byte == 45) ≡ false → long_of (byte ∷ rest) ≡ None
-no_long byte rest e = rw e refl
 
 no_short : (byte : ℕ) (rest : Text) → (byte == 45) ≡ false → short_of (byte ∷ rest) ≡ None
 no_short byte rest e = rw e refl
@@ -85,10 +83,6 @@ nothing_more : (kinds : Kinds) → or_else kinds [] ≡ kinds
 nothing_more [] = refl
 nothing_more (kind ∷ kinds) = refl
 
-and_false : (b : Bool) → (b && false) ≡ false
-and_false true = refl
-and_false false = refl
-
 walked_flag : (c : List Rule) (choice : Choice) (rows : List Row) (pending : Pending) (n : ℕ) → arg_by_long c (choice_id choice) ≡ Some (choice_filled choice)
     → walked c [] (standing rows pending n) (flag choice) ≡ waits_for c rows pending n (choice_id choice)
 unfolding walked
@@ -116,14 +110,14 @@ walked_place : (c : List Rule) (place : Place) (rows : List Row) (pending : Pend
 unfolding walked
 walked_place c place rows pending n byte rest found small plain =
     ap (λ (m : Held × Step). after_step c (byte ∷ rest) (standing rows pending n) m.0 m.1) (plain_met c idle n byte rest (held rows pending) plain)
-    ∙ rw (found, and_false (is_pending (place_filled n place) pending), small) refl
+    ∙ rw (found, and-false (is_pending (place_filled n place) pending), small) refl
 
 fault_place : (s : Shape) (place : Place) (rows : List Row) (pending : Pending) (n byte : ℕ) (rest : Text) → arg_by_index s.rules n ≡ Some (place_filled n place) → (byte == 45) ≡ false
     → turn_fault s [] (standing rows pending n) (byte ∷ rest) ≡ settle_fault s.rules s.args_override_self (held rows pending)
 fault_place s place rows pending n byte rest found plain =
     ap₂ (λ (f : Kinds) (m : Held × Step). or_else f (step_fault s n m.0 m.1)) (plain_fault s idle byte rest (held rows pending) plain)
     (plain_met s.rules idle n byte rest (held rows pending) plain)
-    ∙ rw (found, and_false (is_pending (place_filled n place) pending)) refl
+    ∙ rw (found, and-false (is_pending (place_filled n place) pending)) refl
 
 -- ---- over several words
 
