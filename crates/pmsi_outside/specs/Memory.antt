@@ -65,11 +65,20 @@ fails_next schedule = list_any (λ number. number == counted schedule.calls) sch
 abbrev pub after_call : ScheduleValue → ScheduleValue
 after_call schedule = record schedule { calls = counted schedule.calls }
 
+-- a call of `read`: its buffer before and after, and how many bytes it gives
+pub record ReadCall : Type 0 where
+  pub before : List ℕ
+  pub after : List ℕ
+  pub given : ℕ
+
+abbrev pub read_call : List ℕ → List ℕ → ℕ → ReadCall
+read_call before after given = record { before = before; after = after; given = given }
+
 -- a read gives the next bytes of the open file: as many as may be given, as fit, and as are left
-pub record Gives (most : ℕ) (old new : ShelfValue) (buf_old buf_new : List ℕ) (given : ℕ) (file : Opened) : Type 0 where
-  pub count : given ≡ min (min most (length buf_old)) (length file.left)
-  pub bytes : buf_new ≡ take given file.left ++ drop given buf_old
-  pub after : new ≡ opened old file.name (drop given file.left)
+pub record Gives (most : ℕ) (old new : ShelfValue) (call : ReadCall) (file : Opened) : Type 0 where
+  pub count : call.given ≡ min (min most (length call.before)) (length file.left)
+  pub bytes : call.after ≡ take call.given file.left ++ drop call.given call.before
+  pub after : new ≡ opened old file.name (drop call.given file.left)
 
 -- what the open file has left
 abbrev pub left_of : ShelfValue → Option (List ℕ)
@@ -98,8 +107,8 @@ abbrev pub after_found : MemoryFilesValue → List ℕ → List ℕ → MemoryFi
 after_found files name bytes = record files { shelf = opened files.shelf name bytes; schedule = after_call files.schedule }
 
 -- a read gives the next bytes of the open file, at most a step of them
-pub record GivesStep (old new : MemoryFilesValue) (buf_old buf_new : List ℕ) (given : ℕ) (file : Opened) : Type 0 where
-  pub shelf : Gives old.step old.shelf new.shelf buf_old buf_new given file
+pub record GivesStep (old new : MemoryFilesValue) (call : ReadCall) (file : Opened) : Type 0 where
+  pub shelf : Gives old.step old.shelf new.shelf call file
   pub schedule : new.schedule ≡ after_call old.schedule
   pub step : new.step ≡ old.step
 

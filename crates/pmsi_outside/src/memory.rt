@@ -48,7 +48,7 @@ impl MemoryFiles {
 
 impl Files for MemoryFiles {
     ghost use Rattle.std.specs.Prelude.{◌≡◌, ◌↔◌, ◌≤◌, [], Some, false, IsOk, IfOk, OnOk, OnErr, IsSome, IfSome, IsSomeAnd, string_bytes};
-    ghost use Rattle.pmsi_outside.specs.Memory.{contents_of, left_of, name_of, fails_next, after_found, after_failure, GivesStep};
+    ghost use Rattle.pmsi_outside.specs.Memory.{contents_of, left_of, name_of, fails_next, after_found, after_failure, read_call, GivesStep};
 
     ghost contents = { λ m. Some (contents_of m.shelf.entries) };
 
@@ -80,7 +80,7 @@ impl Files for MemoryFiles {
         ensures answer { IsOk result ↔ (fails_next self.old.schedule ≡ false) }
         ensures step { 1 ≤ self.old.step }
         ensures failed { OnErr result (IsSomeAnd (name_of self.old.shelf) (λ name. self.new ≡ after_failure self.old name)) }
-        ensures given { IfOk result (λ count. IsSomeAnd self.old.shelf.file (GivesStep self.old self.new buf.old buf.new count)) }
+        ensures given { IfOk result (λ count. IsSomeAnd self.old.shelf.file (GivesStep self.old self.new (read_call buf.old buf.new count))) }
     {
         if self.schedule.next() {
             self.shelf.fail_open();
@@ -119,7 +119,7 @@ impl SteadyFiles {
 
 impl Files for SteadyFiles {
     ghost use Rattle.std.specs.Prelude.{◌≡◌, ◌↔◌, ⊤, Some, IsOk, IfOk, OnOk, OnErr, IsSome, IfSome, IsSomeAnd, length, string_bytes};
-    ghost use Rattle.pmsi_outside.specs.Memory.{contents_of, left_of, name_of, opened, failed, Gives};
+    ghost use Rattle.pmsi_outside.specs.Memory.{contents_of, left_of, name_of, opened, failed, read_call, Gives};
 
     ghost contents = { λ m. Some (contents_of m.entries) };
 
@@ -145,7 +145,7 @@ impl Files for SteadyFiles {
     fn read(&mut self, buf: &mut [u8]) -> Result<usize, Failed>
         requires { IsSome (name_of self.old) }
         ensures answer { IsOk result }
-        ensures given { IfOk result (λ count. IsSomeAnd self.old.file (Gives (length buf.old) self.old self.new buf.old buf.new count)) }
+        ensures given { IfOk result (λ count. IsSomeAnd self.old.file (Gives (length buf.old) self.old self.new (read_call buf.old buf.new count))) }
     {
         let most = buf.len();
         Ok(self.shelf.read(most, buf))

@@ -42,7 +42,7 @@ fn place_of(list: &[(String, Vec<u8>)], name: &str) -> Option<usize>
 }
 
 impl Shelf {
-    ghost use Rattle.pmsi_outside.specs.Memory.{entries_of, contents_of, new_shelf, opened, failed, Gives};
+    ghost use Rattle.pmsi_outside.specs.Memory.{entries_of, contents_of, new_shelf, opened, failed, read_call, Gives};
 
     /// No call has been made.
     pub fn new(list: Vec<(String, Vec<u8>)>) -> Shelf
@@ -100,7 +100,7 @@ impl Shelf {
     /// Gives the next bytes of the open file, at most `most`.
     pub fn read(&mut self, most: usize, buf: &mut [u8]) -> usize
         requires { IsSome self.old.file }
-        ensures { IsSomeAnd self.old.file (Gives most self.old self.new buf.old buf.new result) }
+        ensures { IsSomeAnd self.old.file (Gives most self.old self.new (read_call buf.old buf.new result)) }
     {
         let Some(file) = &mut self.file else {
             unreachable!()
