@@ -1,6 +1,6 @@
 -- How one course goes on in another.
-use Rattle.std.proofs.Common.{◌≡◌, inl, inr, subst, refl, ℕ, ◌+◌, ◌≤◌, List, [], ◌∷◌, ◌++◌, arith}
-use Rattle.std.specs.Prelude.{Option, Some, None, ⊤}
+use Rattle.std.proofs.Common.{◌≡◌, inl, inr, subst, ℕ, ◌+◌, ◌≤◌, List, [], ◌∷◌, ◌++◌, arith}
+use Rattle.std.specs.Prelude.{Option, ⊤}
 use Rattle.pmsi_model.specs.declared.Keep.{Keep}
 use Rattle.pmsi_model.specs.Image.{ImageValue}
 use Rattle.pmsi_model.specs.Job.{JobValue}
@@ -16,7 +16,7 @@ use Rattle.tool_files.specs.declared.refusal.Detail.{Detail}
 use Rattle.tool_files.specs.declared.refusal.Stop.{Stop}
 use Rattle.tool_files.specs.declared.refusal.Stop.TheVariants.{ReadFault, Refused, NoMemory}
 use Rattle.tool_files.specs.Parsed.{IsSource, SourceFails, IsImageFile, ImageFails, JobFails, image_of_words, IsMachine, MachineFails}
-use Rattle.tool_files.specs.Course.{Step, opens, refuses, gives, ends, file, checked, source_file, image_file, program, programs, planned, plan_file, job_file}
+use Rattle.tool_files.specs.Course.{Step, opens, refuses, gives, ends, file, checked, program, programs, planned, job_file}
 use Rattle.tool_files.specs.Stops.{FilesCall, Stops, files_call}
 
 module _ {V W : Type 0} where

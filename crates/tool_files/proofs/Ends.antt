@@ -16,13 +16,13 @@ use Rattle.job_text.specs.Plans.{IsPlanOf, plan_text}
 use Rattle.job_text.specs.Generating.{generated}
 use Rattle.script_text.specs.declared.command.Command.{Command}
 use Rattle.script_text.specs.Output.{output_of}
-use Rattle.tool_words.specs.Meaning.{AskedValue, run, sim, trace, asm, dis, image, gen, debug}
+use Rattle.tool_words.specs.Meaning.{run, sim, trace, asm, dis, image, gen, debug}
 use Rattle.tool_files.specs.declared.refusal.Place.{Place}
 use Rattle.tool_files.specs.declared.refusal.Place.TheVariants.{Input, Core, Script}
 use Rattle.tool_files.specs.declared.refusal.Detail.{Detail}
 use Rattle.tool_files.specs.declared.refusal.Detail.TheVariants as detail
 use Rattle.tool_files.specs.Parsed.{IsSource, SourceFails, IsImageFile, ImageFails, JobFails, image_of_words, IsMachine, MachineFails, IsScript, ScriptFails}
-use Rattle.tool_files.specs.Course.{Step, opens, refuses, ends, within, file, checked, source_file, image_file, program, programs, script_file, planned, plan_file, job_file, keeps_nothing, keeps_actions, actions_text, IsEnd}
+use Rattle.tool_files.specs.Course.{Step, opens, refuses, ends, within, file, checked, source_file, image_file, program, programs, script_file, planned, job_file, keeps_nothing, keeps_actions, actions_text, IsEnd}
 use Rattle.tool_files.specs.Laws.{OneEnd}
 use Rattle.tool_files.proofs.Settled.{Settled, source_settled, image_settled, script_settled, plan_settled, machine_settled}
 

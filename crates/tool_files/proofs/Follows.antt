@@ -1,5 +1,5 @@
 -- Reading in order, and what comes by the bytes alone.
-use Rattle.std.proofs.Common.{◌≡◌, inl, inr, ap, sym, refl, subst, ℕ, ◌+◌, List, [], ◌∷◌, ◌++◌, true, false, append_assoc}
+use Rattle.std.proofs.Common.{inl, inr, ap, sym, refl, subst, ℕ, ◌+◌, List, [], ◌∷◌, ◌++◌, true, false, append_assoc}
 use Rattle.std.specs.Prelude.{Option, None, ⊤}
 use Rattle.pmsi_model.specs.declared.Keep.{Keep}
 use Rattle.pmsi_model.specs.declared.job.Geometry.{Geometry}
@@ -22,8 +22,8 @@ use Rattle.tool_files.specs.declared.refusal.Place.TheVariants.{Input, Core, Scr
 use Rattle.tool_files.specs.declared.refusal.Detail.{Detail}
 use Rattle.tool_files.specs.declared.refusal.Detail.TheVariants as detail
 use Rattle.tool_files.specs.Parsed.{IsSource, SourceFails, IsImageFile, ImageFails, JobFails, image_of_words, IsMachine, MachineFails, IsScript, ScriptFails}
-use Rattle.tool_files.specs.Course.{Step, opens, refuses, gives, Reads, keeps_nothing, keeps_actions, actions_text, Comes}
-use Rattle.tool_files.specs.Ordered.{Helds, last, next_file, next_checked, next_source, next_image, next_program, next_programs, next_script, next_planned, next_job, IsNext, Follows}
+use Rattle.tool_files.specs.Course.{Step, opens, Reads, keeps_nothing, keeps_actions, actions_text, Comes}
+use Rattle.tool_files.specs.Ordered.{Helds, last, next_file, next_checked, next_program, next_programs, next_script, next_planned, next_job, IsNext, Follows}
 use Rattle.tool_files.specs.Laws.{SameOrder}
 use Rattle.tool_files.proofs.Sames.{same_course}
 use Rattle.tool_files.proofs.Settled.{Settled, source_settled, image_settled, script_settled, plan_settled, machine_settled}

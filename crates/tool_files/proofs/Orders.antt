@@ -1,7 +1,7 @@
 -- What comes on the bytes of files in the order of opening: one thing, and always something.
 use Rattle.std.proofs.Common.{◌≡◌, ◌∙◌, ◌⊎◌, inl, inr, ap, sym, refl, subst, ℕ, ◌+◌, ◌≤◌, ◌<◌, List, [], ◌∷◌, ◌++◌, length, true, false, arith}
 use Rattle.std.proofs.lemmas.Bool.{cases_lt}
-use Rattle.std.specs.Prelude.{Option, None, ⊤}
+use Rattle.std.specs.Prelude.{Option, None}
 use Rattle.std.specs.List.{All}
 use Rattle.pmsi_model.specs.declared.limits.TheConstants.{MAX_FILE_BYTES}
 use Rattle.pmsi_model.specs.declared.Keep.{Keep}

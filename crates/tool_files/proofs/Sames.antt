@@ -1,5 +1,5 @@
 -- A course is an order of some bytes.
-use Rattle.std.proofs.Common.{◌≡◌, inl, inr, refl, ℕ, ◌+◌, List, [], ◌∷◌, ◌++◌, true, false}
+use Rattle.std.proofs.Common.{inl, inr, refl, ℕ, ◌+◌, List, [], ◌∷◌, ◌++◌, true, false}
 use Rattle.std.specs.Prelude.{Option}
 use Rattle.pmsi_model.specs.declared.Keep.{Keep}
 use Rattle.pmsi_model.specs.declared.job.Geometry.{Geometry}
@@ -22,8 +22,8 @@ use Rattle.tool_files.specs.declared.refusal.Place.TheVariants.{Input, Core, Scr
 use Rattle.tool_files.specs.declared.refusal.Detail.{Detail}
 use Rattle.tool_files.specs.declared.refusal.Detail.TheVariants as detail
 use Rattle.tool_files.specs.Parsed.{IsSource, SourceFails, IsImageFile, ImageFails, JobFails, image_of_words, IsMachine, MachineFails, IsScript, ScriptFails}
-use Rattle.tool_files.specs.Course.{Step, ends, file, checked, source_file, image_file, script_file, program, programs, planned, job_file, keeps_nothing, keeps_actions, actions_text, Comes}
-use Rattle.tool_files.specs.Ordered.{Helds, last, next_file, next_checked, next_source, next_image, next_program, next_programs, next_script, next_planned, next_job, IsNext}
+use Rattle.tool_files.specs.Course.{Step, ends, file, checked, script_file, program, programs, planned, job_file, keeps_nothing, keeps_actions, actions_text, Comes}
+use Rattle.tool_files.specs.Ordered.{Helds, last, next_file, next_checked, next_program, next_programs, next_script, next_planned, next_job, IsNext}
 use Rattle.tool_files.specs.Laws.{SameCourse}
 
 module _ {V : Type 0} where

@@ -1,9 +1,9 @@
 -- What bytes are taken for is settled: it is one value, or one refusal.
-use Rattle.std.proofs.Common.{◌≡◌, ◌∙◌, ◌⊎◌, inl, inr, ap, sym, refl, subst, ℕ, ◌+◌, ◌*◌, ◌≤◌, ◌<◌, List, [], ◌∷◌, length, arith, Bool, true, false}
+use Rattle.std.proofs.Common.{◌≡◌, ◌∙◌, ◌⊎◌, inl, inr, ap, sym, refl, ℕ, ◌≤◌, ◌<◌, List, arith, Bool, true, false}
 use Rattle.std.proofs.lemmas.Bool.{cases_lt}
 use Rattle.std.proofs.lemmas.Str.{IsUtf8-from_is_utf8, is_utf8-from_IsUtf8}
 use Rattle.std.specs.List.{All}
-use Rattle.std.specs.Prelude.{Option, Some, None, Result, Ok, Err, unwrap_or}
+use Rattle.std.specs.Prelude.{Option, Some, Result, Ok, Err, unwrap_or}
 use Rattle.std.specs.Str.{IsUtf8, is_utf8}
 use Rattle.pmsi_model.specs.declared.job.Geometry.{Geometry}
 use Rattle.pmsi_model.specs.declared.limits.TheConstants.{MAX_TOUCHES}
@@ -20,24 +20,16 @@ use Rattle.job_text.specs.declared.job_fault.JobFault.{JobFault}
 use Rattle.pmsi_model.specs.declared.Keep.{Keep}
 use Rattle.pmsi_model.specs.Image.{ImageValue}
 use Rattle.pmsi_model.specs.Job.{JobValue}
-use Rattle.pmsi_model.specs.Listing.{listing_of}
-use Rattle.pmsi_outside.specs.Files.{Contents}
-use Rattle.asm_print.specs.ListingText.{listing_text}
-use Rattle.image_file.specs.Format.{image_bytes}
 use Rattle.job_text.specs.declared.plan.JobPlan.{JobPlan}
-use Rattle.job_text.specs.declared.plan.Program.{Program}
-use Rattle.job_text.specs.declared.plan.Program.TheVariants.{Words, Asm, Image}
+use Rattle.job_text.specs.declared.plan.Program.TheVariants.{Image}
 use Rattle.job_text.specs.Plans.{IsPlanOf, HasJobFault}
 use Rattle.job_text.specs.Joining.{IsJoined, HasJoinFault}
-use Rattle.tool_words.specs.Meaning.{AskedValue, run, asm, dis, image}
-use Rattle.tool_files.specs.declared.refusal.Place.{Place}
-use Rattle.tool_files.specs.declared.refusal.Place.TheVariants.{Input, Core}
 use Rattle.tool_files.specs.declared.refusal.Detail.{Detail}
 use Rattle.tool_files.specs.declared.refusal.Detail.TheVariants as detail
 use Rattle.script_text.specs.declared.command.Command.{Command}
 use Rattle.script_text.specs.declared.fault.ScriptFault.{ScriptFault}
 use Rattle.script_text.specs.Script.{script_of}
-use Rattle.tool_files.specs.Parsed.{IsSource, SourceFails, IsImageFile, ImageFails, JobFails, image_of_words, IsMachine, MachineFails, IsScript, ScriptFails}
+use Rattle.tool_files.specs.Parsed.{IsSource, SourceFails, IsImageFile, ImageFails, JobFails, IsMachine, MachineFails, IsScript, ScriptFails}
 
 no_both : (b : Bool) → b ≡ true → b ≡ false → ⊥
 no_both true yes_ no_ = absurd (cc)

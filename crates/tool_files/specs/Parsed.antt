@@ -1,18 +1,15 @@
 -- What the bytes of a file are taken for, and why they are refused.
-use Rattle.std.specs.Prelude.{◌≡◌, ◌⊎◌, ℕ, List, [], Ok, Err}
+use Rattle.std.specs.Prelude.{◌≡◌, ℕ, List, [], Ok, Err}
 use Rattle.std.specs.Str.{IsUtf8}
 use Rattle.pmsi_model.specs.declared.job.Geometry.{Geometry}
 use Rattle.pmsi_model.specs.declared.Keep.{Keep}
 use Rattle.pmsi_model.specs.Geometry.{CanKeep, most_touches}
 use Rattle.pmsi_model.specs.Image.{ImageValue}
 use Rattle.pmsi_model.specs.Job.{JobValue}
-use Rattle.asm_parse.specs.declared.fault.AsmCause.{AsmCause}
 use Rattle.asm_parse.specs.declared.fault.AsmFault.TheVariants.{At}
 use Rattle.asm_parse.specs.Assembly.{IsAssembled, HasAsmFault}
-use Rattle.image_file.specs.declared.fault.ImageFault.{ImageFault}
 use Rattle.image_file.specs.Format.{IsBytesOf}
 use Rattle.image_file.specs.Checks.{HasFault}
-use Rattle.job_text.specs.declared.job_fault.JobFault.{JobFault}
 use Rattle.job_text.specs.Plans.{HasJobFault}
 use Rattle.job_text.specs.Joining.{IsJoined, HasJoinFault}
 use Rattle.script_text.specs.declared.command.Command.{Command}

@@ -1,4 +1,4 @@
-use Rattle.std.proofs.Common.{rules, ◌≡◌}
+use Rattle.std.proofs.Common.{rules}
 use Rattle.tool_files.specs.Course.{ends, gives, job_file, planned}
 use Rattle.tool_files.specs.Stops.{Stops, files_call}
 use Rattle.tool_files.proofs.FileReads.{plan_read, planned_stops}

@@ -1,4 +1,4 @@
-use Rattle.std.proofs.Common.{rules, ◌≡◌, []}
+use Rattle.std.proofs.Common.{rules, []}
 use Rattle.tool_files.specs.Course.{ends, gives, planned, programs}
 use Rattle.tool_files.specs.declared.refusal.Place.TheVariants.{Input}
 use Rattle.tool_files.specs.Parsed.{IsMachine, MachineFails}

@@ -1,4 +1,4 @@
-use Rattle.std.proofs.Common.{rules, arith, ◌≡◌, ◌∙◌, ◌++◌, ◌∷◌, [], ◌+◌, drop, length}
+use Rattle.std.proofs.Common.{rules, arith, ◌≡◌, ◌∙◌, ◌++◌, ◌∷◌, [], ◌+◌}
 use Rattle.std.proofs.lemmas.Grind.{common_steps}
 use Rattle.tool_files.specs.Course.{program, programs, ends, gives}
 use Rattle.tool_files.specs.Stops.{Stops, files_call}

@@ -1,4 +1,4 @@
-use Rattle.std.proofs.Common.{◌≡◌, ◌≤◌, List, [], drop, length, vec_capacity}
+use Rattle.std.proofs.Common.{◌≡◌, ◌≤◌, List, [], drop, length}
 use Rattle.pmsi_model.specs.Image.{ImageValue}
 use Rattle.tool_files.specs.Course.{Step, ends, programs}
 use Rattle.tool_files.proofs.files.read_programs.Given as goal
