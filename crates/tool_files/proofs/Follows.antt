@@ -23,38 +23,38 @@ use Rattle.tool_files.specs.declared.refusal.Detail.{Detail}
 use Rattle.tool_files.specs.declared.refusal.Detail.TheVariants as detail
 use Rattle.tool_files.specs.Parsed.{IsSource, SourceFails, IsImageFile, ImageFails, JobFails, image_of_words, IsMachine, MachineFails, IsScript, ScriptFails}
 use Rattle.tool_files.specs.Course.{Step, opens, Reads, keeps_nothing, keeps_actions, actions_text, Comes}
-use Rattle.tool_files.specs.Ordered.{Helds, last, next_file, next_checked, next_program, next_programs, next_script, next_planned, next_job, IsNext, Follows}
+use Rattle.tool_files.specs.Ordered.{Order, Helds, last, next_file, next_checked, next_program, next_programs, next_script, next_planned, next_job, IsNext, Follows}
 use Rattle.tool_files.specs.Laws.{SameOrder}
 use Rattle.tool_files.proofs.Sames.{same_course}
 use Rattle.tool_files.proofs.Settled.{Settled, source_settled, image_settled, script_settled, plan_settled, machine_settled}
 
 module _ {V : Type 0} (contents : Option Contents) where
   -- each of the bytes is that of the name that the order opens behind those before it
-  abbrev Following : (Helds → Step V → Type 0) → Helds → Helds → Type 0
+  abbrev Following : Order V → Helds → Helds → Type 0
   Following order before [] = ⊤
   Following order before (held ∷ helds) = (name : List ℕ) × order before (opens name) × Reads contents name held × Following order (before ++ held ∷ []) helds
 
-  following_on : (order other : Helds → Step V → Type 0) (front before helds : Helds) → ((read : Helds) (name : List ℕ) → order read (opens name) → other (front ++ read) (opens name))
+  following_on : (order other : Order V) (front before helds : Helds) → ((read : Helds) (name : List ℕ) → order read (opens name) → other (front ++ read) (opens name))
       → Following order before helds → Following other (front ++ before) helds
   following_on order other front before [] on f = tt
   following_on order other front before (held ∷ helds) on (name, opened, reads, rest) =
       (name, on before name opened, reads, subst (λ (l : Helds). Following other l helds) (sym (append_assoc front before (held ∷ []))) (following_on order other front (before ++ held ∷ []) helds on rest))
 
-  following_back : (order other : Helds → Step V → Type 0) (front before helds : Helds) → ((read : Helds) (name : List ℕ) → other (front ++ read) (opens name) → order read (opens name))
+  following_back : (order other : Order V) (front before helds : Helds) → ((read : Helds) (name : List ℕ) → other (front ++ read) (opens name) → order read (opens name))
       → Following other (front ++ before) helds → Following order before helds
   following_back order other front before [] back f = tt
   following_back order other front before (held ∷ helds) back (name, opened, reads, rest) =
       (name, back before name opened, reads, following_back order other front (before ++ held ∷ []) helds back (subst (λ (l : Helds). Following other l helds) (append_assoc front before (held ∷ [])) rest))
 
   -- the order with told contents, and by the bytes alone
-  record Agree (told free : Helds → Step V → Type 0) : Type 0 where
+  record Agree (told free : Order V) : Type 0 where
     there : (helds : Helds) (step : Step V) → told helds step → Following free [] helds × free helds step
     back : (helds : Helds) (step : Step V) → Following free [] helds → free helds step → told helds step
 
   last_agree : (value : V) → Agree (last value) (last value)
   last_agree value = record { there = λ helds step is. (subst (Following (last value) []) (sym is.0) tt, is); back = λ helds step f is. is }
 
-  file_agree : (place : Place) (name : List ℕ) (told free : List ℕ → Helds → Step V → Type 0) → ((held : List ℕ) → Agree (told held) (free held)) → Agree (next_file contents place name told) (next_file None place name free)
+  file_agree : (place : Place) (name : List ℕ) (told free : List ℕ → Order V) → ((held : List ℕ) → Agree (told held) (free held)) → Agree (next_file contents place name told) (next_file None place name free)
   file_agree place name told free agree = record { there = there; back = back }
     where
       there : (helds : Helds) (step : Step V) → next_file contents place name told helds step → Following (next_file None place name free) [] helds × next_file None place name free helds step
@@ -78,7 +78,7 @@ module _ {V : Type 0} (contents : Option Contents) where
           inner read n (v, inl at) = absurd (cc)
           inner read n (v, inr at) = at.1
 
-  checked_agree : {X : Type 0} (place : Place) (Is : X → Type 0) (Fails : Detail → Type 0) (told free : X → Helds → Step V → Type 0) → Settled Is Fails → ((value : X) → Agree (told value) (free value))
+  checked_agree : {X : Type 0} (place : Place) (Is : X → Type 0) (Fails : Detail → Type 0) (told free : X → Order V) → Settled Is Fails → ((value : X) → Agree (told value) (free value))
       → Agree (next_checked place Is Fails told) (next_checked place Is Fails free)
   checked_agree {X} place Is Fails told free settled agree = record { there = there; back = back }
     where
@@ -96,31 +96,31 @@ module _ {V : Type 0} (contents : Option Contents) where
           inner read n (inl (d, fails, none, at)) = absurd (cc)
           inner read n (inr (value', valid', at)) = subst (λ (v : X). free v read (opens n)) (settled.one_value value' value valid' valid) at
 
-  kind_agree : {X : Type 0} (place : Place) (name : List ℕ) (Is : List ℕ → X → Type 0) (Fails : List ℕ → Detail → Type 0) (told free : X → Helds → Step V → Type 0) → ((held : List ℕ) → Settled (Is held) (Fails held)) → ((value : X) → Agree (told value) (free value))
+  kind_agree : {X : Type 0} (place : Place) (name : List ℕ) (Is : List ℕ → X → Type 0) (Fails : List ℕ → Detail → Type 0) (told free : X → Order V) → ((held : List ℕ) → Settled (Is held) (Fails held)) → ((value : X) → Agree (told value) (free value))
       → Agree (next_file contents place name (λ held. next_checked place (Is held) (Fails held) told)) (next_file None place name (λ held. next_checked place (Is held) (Fails held) free))
   kind_agree place name Is Fails told free settled agree =
       file_agree place name (λ held. next_checked place (Is held) (Fails held) told) (λ held. next_checked place (Is held) (Fails held) free) (λ held. checked_agree place (Is held) (Fails held) told free (settled held) agree)
 
-  script_agree : (name : List ℕ) (shape : Geometry) (told free : List Command → Helds → Step V → Type 0) → ((c : List Command) → Agree (told c) (free c)) → Agree (next_script contents name shape told) (next_script None name shape free)
+  script_agree : (name : List ℕ) (shape : Geometry) (told free : List Command → Order V) → ((c : List Command) → Agree (told c) (free c)) → Agree (next_script contents name shape told) (next_script None name shape free)
   script_agree name shape told free agree = kind_agree Script name (IsScript shape) (ScriptFails shape) told free (script_settled shape) agree
 
-  program_agree : (core : ℕ) (given : Program) (told free : ImageValue → Helds → Step V → Type 0) → ((i : ImageValue) → Agree (told i) (free i)) → Agree (next_program contents core given told) (next_program None core given free)
+  program_agree : (core : ℕ) (given : Program) (told free : ImageValue → Order V) → ((i : ImageValue) → Agree (told i) (free i)) → Agree (next_program contents core given told) (next_program None core given free)
   program_agree core (Words words) told free agree = agree (image_of_words words)
   program_agree core (Asm name) told free agree = kind_agree (Core core) name IsSource SourceFails told free source_settled agree
   program_agree core (Image name) told free agree = kind_agree (Core core) name IsImageFile ImageFails told free image_settled agree
 
-  programs_agree : (core : ℕ) (given : List Program) (images : List ImageValue) (told free : List ImageValue → Helds → Step V → Type 0) → ((all : List ImageValue) → Agree (told all) (free all)) → Agree (next_programs contents core given images told) (next_programs None core given images free)
+  programs_agree : (core : ℕ) (given : List Program) (images : List ImageValue) (told free : List ImageValue → Order V) → ((all : List ImageValue) → Agree (told all) (free all)) → Agree (next_programs contents core given images told) (next_programs None core given images free)
   programs_agree core [] images told free agree = agree images
   programs_agree core (g ∷ given) images told free agree =
       program_agree core g (λ i. next_programs contents (core + 1) given (images ++ i ∷ []) told) (λ i. next_programs None (core + 1) given (images ++ i ∷ []) free)
       (λ i. programs_agree (core + 1) given (images ++ i ∷ []) told free agree)
 
-  planned_agree : (keep : Keep) (plan : JobPlan) (told free : JobValue → Helds → Step V → Type 0) → ((j : JobValue) → Agree (told j) (free j)) → Agree (next_planned contents keep told plan) (next_planned None keep free plan)
+  planned_agree : (keep : Keep) (plan : JobPlan) (told free : JobValue → Order V) → ((j : JobValue) → Agree (told j) (free j)) → Agree (next_planned contents keep told plan) (next_planned None keep free plan)
   planned_agree keep plan told free agree = programs_agree 0 plan.programs [] (λ images. next_checked Input (IsMachine keep plan.shape images) (MachineFails keep plan.shape images) told)
       (λ images. next_checked Input (IsMachine keep plan.shape images) (MachineFails keep plan.shape images) free)
       (λ images. checked_agree Input (IsMachine keep plan.shape images) (MachineFails keep plan.shape images) told free (machine_settled keep plan.shape images) agree)
 
-  job_agree : (keep : Keep) (name : List ℕ) (told free : JobValue → Helds → Step V → Type 0) → ((j : JobValue) → Agree (told j) (free j)) → Agree (next_job contents keep name told) (next_job None keep name free)
+  job_agree : (keep : Keep) (name : List ℕ) (told free : JobValue → Order V) → ((j : JobValue) → Agree (told j) (free j)) → Agree (next_job contents keep name told) (next_job None keep name free)
   job_agree keep name told free agree = kind_agree Input name IsPlanOf JobFails (next_planned contents keep told) (next_planned None keep free) plan_settled (λ plan. planned_agree keep plan told free agree)
 
 -- a row a command

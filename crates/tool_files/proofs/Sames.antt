@@ -22,12 +22,12 @@ use Rattle.tool_files.specs.declared.refusal.Place.TheVariants.{Input, Core, Scr
 use Rattle.tool_files.specs.declared.refusal.Detail.{Detail}
 use Rattle.tool_files.specs.declared.refusal.Detail.TheVariants as detail
 use Rattle.tool_files.specs.Parsed.{IsSource, SourceFails, IsImageFile, ImageFails, JobFails, image_of_words, IsMachine, MachineFails, IsScript, ScriptFails}
-use Rattle.tool_files.specs.Course.{Step, ends, file, checked, script_file, program, programs, planned, job_file, keeps_nothing, keeps_actions, actions_text, Comes}
-use Rattle.tool_files.specs.Ordered.{Helds, last, next_file, next_checked, next_program, next_programs, next_script, next_planned, next_job, IsNext}
+use Rattle.tool_files.specs.Course.{Course, Step, ends, file, checked, script_file, program, programs, planned, job_file, keeps_nothing, keeps_actions, actions_text, Comes}
+use Rattle.tool_files.specs.Ordered.{Order, Helds, last, next_file, next_checked, next_program, next_programs, next_script, next_planned, next_job, IsNext}
 use Rattle.tool_files.specs.Laws.{SameCourse}
 
 module _ {V : Type 0} where
-  record Same (course : Step V → Type 0) (order : Helds → Step V → Type 0) : Type 0 where
+  record Same (course : Course V) (order : Order V) : Type 0 where
     there : (step : Step V) → course step → (helds : Helds) × order helds step
     back : (step : Step V) (helds : Helds) → order helds step → course step
 
@@ -35,7 +35,7 @@ module _ {V : Type 0} where
   last_same value = record { there = λ step is. ([], (refl, is)); back = λ step helds is. is.1 }
 
 module _ {V : Type 0} (contents : Option Contents) where
-  file_same : (place : Place) (name : List ℕ) (inner : List ℕ → Step V → Type 0) (then : List ℕ → Helds → Step V → Type 0) → ((held : List ℕ) → Same (inner held) (then held))
+  file_same : (place : Place) (name : List ℕ) (inner : List ℕ → Course V) (then : List ℕ → Order V) → ((held : List ℕ) → Same (inner held) (then held))
       → Same (file contents place name inner) (next_file contents place name then)
   file_same place name inner then same = record { there = there; back = back }
     where
@@ -49,7 +49,7 @@ module _ {V : Type 0} (contents : Option Contents) where
       back step (held ∷ helds) (reads, inl is) = inr (held, reads, inl (is.0, is.2))
       back step (held ∷ helds) (reads, inr is) = inr (held, reads, inr (is.0, (same held).back step helds is.1))
 
-  checked_same : {X : Type 0} (place : Place) (Is : X → Type 0) (Fails : Detail → Type 0) (inner : X → Step V → Type 0) (then : X → Helds → Step V → Type 0) → ((value : X) → Same (inner value) (then value))
+  checked_same : {X : Type 0} (place : Place) (Is : X → Type 0) (Fails : Detail → Type 0) (inner : X → Course V) (then : X → Order V) → ((value : X) → Same (inner value) (then value))
       → Same (checked place Is Fails inner) (next_checked place Is Fails then)
   checked_same place Is Fails inner then same = record { there = there; back = back }
     where
@@ -61,32 +61,32 @@ module _ {V : Type 0} (contents : Option Contents) where
       back step helds (inl (d, fails, none, is)) = inl (d, fails, is)
       back step helds (inr (value, valid, is)) = inr (value, valid, (same value).back step helds is)
 
-  kind_same : {X : Type 0} (place : Place) (name : List ℕ) (Is : List ℕ → X → Type 0) (Fails : List ℕ → Detail → Type 0) (inner : X → Step V → Type 0) (then : X → Helds → Step V → Type 0) → ((value : X) → Same (inner value) (then value))
+  kind_same : {X : Type 0} (place : Place) (name : List ℕ) (Is : List ℕ → X → Type 0) (Fails : List ℕ → Detail → Type 0) (inner : X → Course V) (then : X → Order V) → ((value : X) → Same (inner value) (then value))
       → Same (file contents place name (λ held. checked place (Is held) (Fails held) inner)) (next_file contents place name (λ held. next_checked place (Is held) (Fails held) then))
   kind_same place name Is Fails inner then same =
       file_same place name (λ held. checked place (Is held) (Fails held) inner) (λ held. next_checked place (Is held) (Fails held) then) (λ held. checked_same place (Is held) (Fails held) inner then same)
 
-  script_same : (name : List ℕ) (shape : Geometry) (inner : List Command → Step V → Type 0) (then : List Command → Helds → Step V → Type 0) → ((c : List Command) → Same (inner c) (then c)) → Same (script_file contents name shape inner) (next_script contents name shape then)
+  script_same : (name : List ℕ) (shape : Geometry) (inner : List Command → Course V) (then : List Command → Order V) → ((c : List Command) → Same (inner c) (then c)) → Same (script_file contents name shape inner) (next_script contents name shape then)
   script_same name shape inner then same = kind_same Script name (IsScript shape) (ScriptFails shape) inner then same
 
-  program_same : (core : ℕ) (given : Program) (inner : ImageValue → Step V → Type 0) (then : ImageValue → Helds → Step V → Type 0) → ((i : ImageValue) → Same (inner i) (then i)) → Same (program contents core given inner) (next_program contents core given then)
+  program_same : (core : ℕ) (given : Program) (inner : ImageValue → Course V) (then : ImageValue → Order V) → ((i : ImageValue) → Same (inner i) (then i)) → Same (program contents core given inner) (next_program contents core given then)
   program_same core (Words words) inner then same = same (image_of_words words)
   program_same core (Asm name) inner then same = kind_same (Core core) name IsSource SourceFails inner then same
   program_same core (Image name) inner then same = kind_same (Core core) name IsImageFile ImageFails inner then same
 
-  programs_same : (core : ℕ) (given : List Program) (images : List ImageValue) (inner : List ImageValue → Step V → Type 0) (then : List ImageValue → Helds → Step V → Type 0) → ((all : List ImageValue) → Same (inner all) (then all))
+  programs_same : (core : ℕ) (given : List Program) (images : List ImageValue) (inner : List ImageValue → Course V) (then : List ImageValue → Order V) → ((all : List ImageValue) → Same (inner all) (then all))
       → Same (programs contents core given images inner) (next_programs contents core given images then)
   programs_same core [] images inner then same = same images
   programs_same core (g ∷ given) images inner then same =
       program_same core g (λ i. programs contents (core + 1) given (images ++ i ∷ []) inner) (λ i. next_programs contents (core + 1) given (images ++ i ∷ []) then)
       (λ i. programs_same (core + 1) given (images ++ i ∷ []) inner then same)
 
-  planned_same : (keep : Keep) (plan : JobPlan) (inner : JobValue → Step V → Type 0) (then : JobValue → Helds → Step V → Type 0) → ((j : JobValue) → Same (inner j) (then j)) → Same (planned contents keep inner plan) (next_planned contents keep then plan)
+  planned_same : (keep : Keep) (plan : JobPlan) (inner : JobValue → Course V) (then : JobValue → Order V) → ((j : JobValue) → Same (inner j) (then j)) → Same (planned contents keep inner plan) (next_planned contents keep then plan)
   planned_same keep plan inner then same = programs_same 0 plan.programs [] (λ images. checked Input (IsMachine keep plan.shape images) (MachineFails keep plan.shape images) inner)
       (λ images. next_checked Input (IsMachine keep plan.shape images) (MachineFails keep plan.shape images) then)
       (λ images. checked_same Input (IsMachine keep plan.shape images) (MachineFails keep plan.shape images) inner then same)
 
-  job_same : (keep : Keep) (name : List ℕ) (inner : JobValue → Step V → Type 0) (then : JobValue → Helds → Step V → Type 0) → ((j : JobValue) → Same (inner j) (then j)) → Same (job_file contents keep name inner) (next_job contents keep name then)
+  job_same : (keep : Keep) (name : List ℕ) (inner : JobValue → Course V) (then : JobValue → Order V) → ((j : JobValue) → Same (inner j) (then j)) → Same (job_file contents keep name inner) (next_job contents keep name then)
   job_same keep name inner then same = kind_same Input name IsPlanOf JobFails (planned contents keep inner) (next_planned contents keep then) (λ plan. planned_same keep plan inner then same)
 
 -- a row a command

@@ -32,6 +32,10 @@ pub data Step (V : Type 0) : Type 0 where
   refuses : Place → Detail → Step V
   gives : V → Step V
 
+-- what can come
+abbrev pub Course : Type 0 → Type 1
+Course V = Step V → Type 0
+
 -- these are the contents of the name, where contents are told
 abbrev pub Reads : Option Contents → List ℕ → List ℕ → Type 0
 Reads contents name held = Tells contents name (λ told. told ≡ held)
@@ -39,55 +43,55 @@ Reads contents name held = Tells contents name (λ told. told ≡ held)
 -- ---- stages
 
 -- nothing more is opened
-abbrev pub ends : {V : Type 0} → V → Step V → Type 0
+abbrev pub ends : {V : Type 0} → V → Course V
 ends value step = step ≡ gives value
 
 -- a file that isn't too large, and then what follows on its bytes
-abbrev pub within : {V : Type 0} → Place → (List ℕ → Step V → Type 0) → List ℕ → Step V → Type 0
+abbrev pub within : {V : Type 0} → Place → (List ℕ → Course V) → List ℕ → Course V
 within place then held step = ((MAX_FILE_BYTES < length held) × (step ≡ refuses place Large)) ⊎ ((length held ≤ MAX_FILE_BYTES) × then held step)
 
 -- a file is opened and read, and then what follows on its bytes
-abbrev pub file : {V : Type 0} → Option Contents → Place → List ℕ → (List ℕ → Step V → Type 0) → Step V → Type 0
+abbrev pub file : {V : Type 0} → Option Contents → Place → List ℕ → (List ℕ → Course V) → Course V
 file contents place name then step = (step ≡ opens name) ⊎ ((held : List ℕ) × Reads contents name held × within place then held step)
 
 -- something is refused, or gives a value, and then what follows on it
-abbrev pub checked : {V W : Type 0} → Place → (V → Type 0) → (Detail → Type 0) → (V → Step W → Type 0) → Step W → Type 0
+abbrev pub checked : {V W : Type 0} → Place → (V → Type 0) → (Detail → Type 0) → (V → Course W) → Course W
 checked {V} place Is Fails then step = ((detail : Detail) × Fails detail × (step ≡ refuses place detail)) ⊎ ((value : V) × Is value × then value step)
 
 -- ---- files of a kind
 
-abbrev pub source_file : {V : Type 0} → Option Contents → Place → List ℕ → (ImageValue → Step V → Type 0) → Step V → Type 0
+abbrev pub source_file : {V : Type 0} → Option Contents → Place → List ℕ → (ImageValue → Course V) → Course V
 source_file contents place name then = file contents place name (λ held. checked place (IsSource held) (SourceFails held) then)
 
-abbrev pub image_file : {V : Type 0} → Option Contents → Place → List ℕ → (ImageValue → Step V → Type 0) → Step V → Type 0
+abbrev pub image_file : {V : Type 0} → Option Contents → Place → List ℕ → (ImageValue → Course V) → Course V
 image_file contents place name then = file contents place name (λ held. checked place (IsImageFile held) (ImageFails held) then)
 
 -- the program of a core
-abbrev pub program : {V : Type 0} → Option Contents → ℕ → Program → (ImageValue → Step V → Type 0) → Step V → Type 0
+abbrev pub program : {V : Type 0} → Option Contents → ℕ → Program → (ImageValue → Course V) → Course V
 program contents core (Words words) then = then (image_of_words words)
 program contents core (Asm name) then = source_file contents (Core core) name then
 program contents core (Image name) then = image_file contents (Core core) name then
 
 -- the programs of a plan, core by core, behind those before
-abbrev pub programs : {V : Type 0} → Option Contents → ℕ → List Program → List ImageValue → (List ImageValue → Step V → Type 0) → Step V → Type 0
+abbrev pub programs : {V : Type 0} → Option Contents → ℕ → List Program → List ImageValue → (List ImageValue → Course V) → Course V
 programs contents core [] images then = then images
 programs contents core (p ∷ ps) images then = program contents core p (λ i. programs contents (core + 1) ps (images ++ i ∷ []) then)
 
 -- what follows on a plan: its programs, and the job of which so much is to be kept
-abbrev pub planned : {V : Type 0} → Option Contents → Keep → (JobValue → Step V → Type 0) → JobPlan → Step V → Type 0
+abbrev pub planned : {V : Type 0} → Option Contents → Keep → (JobValue → Course V) → JobPlan → Course V
 planned contents keep then plan =
     programs contents 0 plan.programs [] (λ images. checked Input (IsMachine keep plan.shape images) (MachineFails keep plan.shape images) then)
 
 -- a job's own file
-abbrev pub plan_file : {V : Type 0} → Option Contents → List ℕ → (JobPlan → Step V → Type 0) → Step V → Type 0
+abbrev pub plan_file : {V : Type 0} → Option Contents → List ℕ → (JobPlan → Course V) → Course V
 plan_file contents name then = file contents Input name (λ held. checked Input (IsPlanOf held) (JobFails held) then)
 
 -- a job's own file, and then those of its programs
-abbrev pub job_file : {V : Type 0} → Option Contents → Keep → List ℕ → (JobValue → Step V → Type 0) → Step V → Type 0
+abbrev pub job_file : {V : Type 0} → Option Contents → Keep → List ℕ → (JobValue → Course V) → Course V
 job_file contents keep name then = plan_file contents name (planned contents keep then)
 
 -- a script, for a machine of a shape
-abbrev pub script_file : {V : Type 0} → Option Contents → List ℕ → Geometry → (List Command → Step V → Type 0) → Step V → Type 0
+abbrev pub script_file : {V : Type 0} → Option Contents → List ℕ → Geometry → (List Command → Course V) → Course V
 script_file contents name shape then = file contents Script name (λ held. checked Script (IsScript shape held) (ScriptFails shape held) then)
 
 -- ---- made jobs

@@ -29,48 +29,52 @@ use Rattle.tool_files.specs.Course.{Step, opens, refuses, gives, Reads, keeps_no
 abbrev pub Helds : Type 0
 Helds = List (List ℕ)
 
+-- what can come on such bytes
+abbrev pub Order : Type 0 → Type 1
+Order V = Helds → Step V → Type 0
+
 -- ---- stages
 
-abbrev pub last : {V : Type 0} → V → Helds → Step V → Type 0
+abbrev pub last : {V : Type 0} → V → Order V
 last value helds step = (helds ≡ []) × (step ≡ gives value)
 
-abbrev pub next_file : {V : Type 0} → Option Contents → Place → List ℕ → (List ℕ → Helds → Step V → Type 0) → Helds → Step V → Type 0
+abbrev pub next_file : {V : Type 0} → Option Contents → Place → List ℕ → (List ℕ → Order V) → Order V
 next_file contents place name then [] step = step ≡ opens name
 next_file contents place name then (held ∷ helds) step =
     Reads contents name held
     × (((MAX_FILE_BYTES < length held) × (helds ≡ []) × (step ≡ refuses place Large)) ⊎ ((length held ≤ MAX_FILE_BYTES) × then held helds step))
 
-abbrev pub next_checked : {V W : Type 0} → Place → (V → Type 0) → (Detail → Type 0) → (V → Helds → Step W → Type 0) → Helds → Step W → Type 0
+abbrev pub next_checked : {V W : Type 0} → Place → (V → Type 0) → (Detail → Type 0) → (V → Order W) → Order W
 next_checked {V} place Is Fails then helds step =
     ((detail : Detail) × Fails detail × (helds ≡ []) × (step ≡ refuses place detail)) ⊎ ((value : V) × Is value × then value helds step)
 
 -- ---- files of a kind
 
-abbrev pub next_source : {V : Type 0} → Option Contents → Place → List ℕ → (ImageValue → Helds → Step V → Type 0) → Helds → Step V → Type 0
+abbrev pub next_source : {V : Type 0} → Option Contents → Place → List ℕ → (ImageValue → Order V) → Order V
 next_source contents place name then = next_file contents place name (λ held. next_checked place (IsSource held) (SourceFails held) then)
 
-abbrev pub next_image : {V : Type 0} → Option Contents → Place → List ℕ → (ImageValue → Helds → Step V → Type 0) → Helds → Step V → Type 0
+abbrev pub next_image : {V : Type 0} → Option Contents → Place → List ℕ → (ImageValue → Order V) → Order V
 next_image contents place name then = next_file contents place name (λ held. next_checked place (IsImageFile held) (ImageFails held) then)
 
-abbrev pub next_program : {V : Type 0} → Option Contents → ℕ → Program → (ImageValue → Helds → Step V → Type 0) → Helds → Step V → Type 0
+abbrev pub next_program : {V : Type 0} → Option Contents → ℕ → Program → (ImageValue → Order V) → Order V
 next_program contents core (Words words) then = then (image_of_words words)
 next_program contents core (Asm name) then = next_source contents (Core core) name then
 next_program contents core (Image name) then = next_image contents (Core core) name then
 
-abbrev pub next_programs : {V : Type 0} → Option Contents → ℕ → List Program → List ImageValue → (List ImageValue → Helds → Step V → Type 0) → Helds → Step V → Type 0
+abbrev pub next_programs : {V : Type 0} → Option Contents → ℕ → List Program → List ImageValue → (List ImageValue → Order V) → Order V
 next_programs contents core [] images then = then images
 next_programs contents core (p ∷ ps) images then = next_program contents core p (λ i. next_programs contents (core + 1) ps (images ++ i ∷ []) then)
 
-abbrev pub next_planned : {V : Type 0} → Option Contents → Keep → (JobValue → Helds → Step V → Type 0) → JobPlan → Helds → Step V → Type 0
+abbrev pub next_planned : {V : Type 0} → Option Contents → Keep → (JobValue → Order V) → JobPlan → Order V
 next_planned contents keep then plan =
     next_programs contents 0 plan.programs []
     (λ images. next_checked Input (IsMachine keep plan.shape images) (MachineFails keep plan.shape images) then)
 
-abbrev pub next_job : {V : Type 0} → Option Contents → Keep → List ℕ → (JobValue → Helds → Step V → Type 0) → Helds → Step V → Type 0
+abbrev pub next_job : {V : Type 0} → Option Contents → Keep → List ℕ → (JobValue → Order V) → Order V
 next_job contents keep name then =
     next_file contents Input name (λ held. next_checked Input (IsPlanOf held) (JobFails held) (next_planned contents keep then))
 
-abbrev pub next_script : {V : Type 0} → Option Contents → List ℕ → Geometry → (List Command → Helds → Step V → Type 0) → Helds → Step V → Type 0
+abbrev pub next_script : {V : Type 0} → Option Contents → List ℕ → Geometry → (List Command → Order V) → Order V
 next_script contents name shape then = next_file contents Script name (λ held. next_checked Script (IsScript shape held) (ScriptFails shape held) then)
 
 abbrev pub next_made : Option Contents → Bool → JobPlan → Helds → Step (List ℕ) → Type 0

@@ -6,7 +6,7 @@ use Rattle.tool_files.specs.declared.refusal.Detail.{Detail}
 use Rattle.tool_files.specs.declared.refusal.Place.{Place}
 use Rattle.tool_files.specs.declared.refusal.Stop.{Stop}
 use Rattle.tool_files.specs.declared.refusal.Stop.TheVariants.{ReadFault, Refused, NoMemory}
-use Rattle.tool_files.specs.Course.{Step, opens, refuses}
+use Rattle.tool_files.specs.Course.{Course, opens, refuses}
 
 -- files in a call: their contents, where they are told, their counts of faults before and after, and the name that is blamed after
 pub record FilesCall : Type 0 where
@@ -19,14 +19,14 @@ abbrev pub files_call : Option Contents → ℕ → ℕ → Option (List ℕ) �
 files_call contents before now blamed = record { contents = contents; before = before; now = now; blamed = blamed }
 
 -- the count rose, and the name blamed is one that the course opens
-pub record Faults {V : Type 0} (course : Step V → Type 0) (files : FilesCall) : Type 0 where
+pub record Faults {V : Type 0} (course : Course V) (files : FilesCall) : Type 0 where
   pub rose : Rose files.before files.now
   pub name : List ℕ
   pub opened : course (opens name)
   pub blame : files.blamed ≡ Some name
 
 -- why a course is stopped; want of memory needs no cause
-abbrev pub Stops : {V : Type 0} → (Step V → Type 0) → FilesCall → Stop → Type 0
+abbrev pub Stops : {V : Type 0} → Course V → FilesCall → Stop → Type 0
 Stops course files ReadFault = Faults course files
 Stops course files (Refused place detail) = course (refuses place detail)
 Stops course files NoMemory = ⊤

@@ -7,7 +7,8 @@ ghost use Rattle.job_text.specs.Plans.{HasFewWords, IsPlan, IsPlanOf};
 ghost use Rattle.script_text.specs.Script.{is_in_range};
 ghost use Rattle.tool_files.specs.declared.refusal.Place.TheVariants.{Input, Core, Script};
 ghost use Rattle.tool_files.specs.Course.{ends, file, gives, image_file, job_file, plan_file, planned, program, programs, script_file, source_file};
-ghost use Rattle.tool_files.specs.Parsed.{ImageFails, IsImageFile, IsMachine, IsScript, IsSource, JobFails, MachineFails, ScriptFails, SourceFails, image_of_words};
+ghost use Rattle.tool_files.specs.Parsed.{ImageFails, IsImageFile, IsMachine, IsScript, IsSource};
+ghost use Rattle.tool_files.specs.Parsed.{JobFails, MachineFails, ScriptFails, SourceFails, image_of_words};
 ghost use Rattle.tool_files.specs.Stops.{Stops, StopsAt, files_call};
 
 use crate::refusal::{Detail, Place, Stop};
