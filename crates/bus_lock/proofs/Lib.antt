@@ -1,4 +1,3 @@
-pub mod Meetings
 pub mod Views
 pub mod LockTries
 pub mod LockReleases

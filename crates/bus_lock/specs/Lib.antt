@@ -1,4 +1,3 @@
-pub mod Meetings
 pub mod Rule
 pub mod Answers
 pub mod Seats

@@ -3,7 +3,6 @@
 
 mod about;
 mod closing;
-mod meeting;
 mod opening;
 mod rule;
 mod seat;

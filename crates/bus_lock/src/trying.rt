@@ -6,12 +6,12 @@ ghost use Rattle.bus_lock.specs.Rule.{Rests, Takes, IsBusAt, IsHolding, missed, 
 ghost use Rattle.bus_lock.specs.Answers.{Answers, SameSeat, StandsAt};
 ghost use Rattle.bus_lock.specs.Seats.{IsOwn, view_of};
 
-use crate::meeting::meet;
 use crate::rule::{Declines, EndsSlot, Tries};
 use crate::seat::{BusSeat, Chair, Place, SharedBus};
 use bus_core::Bus;
 use core_unit::Core;
 use pmsi_model::{Action, BusPort};
+use sim_steps::meet;
 
 /// What a try to meet the bus came to.
 #[derive(Clone, Copy, Debug, PartialEq, Eq)]

@@ -13,7 +13,7 @@ use Rattle.core_unit.specs.declared.state.State.{State}
 use Rattle.sim_steps.specs.declared.took.Took.{Took}
 use Rattle.sim_steps.specs.declared.took.Took.TheVariants.{Done, NotYet, Again, Over}
 use Rattle.sim_steps.specs.Took.{took}
-use Rattle.sim_steps.specs.Meetings.{AreMeeting, pair}
+use Rattle.sim_steps.specs.Meetings.{AreMeeting, pair, standing}
 use Rattle.sim_steps.specs.Cores.{AreTaking, CanTake, IsAt, IsPhaseStep, IsMeetStep}
 use Rattle.sim_steps.specs.Spreads.{SpreadValue, StandsAt}
 use Rattle.sim_steps.specs.Steps.{IsStep}
@@ -97,7 +97,7 @@ module _ (job : JobValue) (k : Counts) (cores : List State) (bus : BusSide) (c :
       still (Meet c) Over other w side s.1 s.2 (rw less refl) (rw less refl)
 
   -- the core's and the bus's part of it
-  are_meeting : AllFit job k → (other : State) → k.marked c ≡ true → AreMeeting job c k (pair (get_or cores c other) bus)
+  are_meeting : AllFit job k → (other : State) → k.marked c ≡ true → AreMeeting job (standing c (k.count c) k.turn) (pair (get_or cores c other) bus)
   are_meeting fits other marked = record {
     part = (subst (λ (m : Bool). IsAt job (k.count c) c m (get_or cores c other)) marked (at.core c other below)).part;
     side = at.bus;

@@ -7,7 +7,7 @@ use Rattle.core_unit.specs.declared.state.State.{State}
 use Rattle.core_unit.specs.Parts.{IsPart, IsPartAfter}
 use Rattle.sim_steps.specs.declared.took.Took.{Took}
 use Rattle.sim_steps.specs.declared.took.Took.TheVariants.{Done, NotYet, Again, Over}
-use Rattle.sim_steps.specs.Meetings.{AreMeeting, Pair}
+use Rattle.sim_steps.specs.Meetings.{AreMeeting, Pair, standing}
 
 -- a core is that of a job in a slot, and its phase is done or not
 abbrev pub IsPartBy : JobValue → ℕ → ℕ → Bool → State → Type 0
@@ -34,7 +34,7 @@ TakesPhase v w result = (job : JobValue) (c : ℕ) (k : Counts) → IsAt job (k.
 -- a core in its slot, whose count fits the bus's turn where its phase is done
 pub record AreTaking (job : JobValue) (c : ℕ) (k : Counts) (v : Pair) : Type 0 where
   pub at : IsAt job (k.count c) c (k.marked c) v.core
-  pub meeting : k.marked c ≡ true → AreMeeting job c k v
+  pub meeting : k.marked c ≡ true → AreMeeting job (standing c (k.count c) k.turn) v
 
 pub record CanTake (v : Pair) : Type 0 where
   pub job : JobValue

@@ -8,6 +8,7 @@ mod meeting;
 mod spread;
 mod took;
 
+pub use meeting::meet;
 pub use pmsi_model::Step;
 pub use spread::Spread;
 pub use took::Took;

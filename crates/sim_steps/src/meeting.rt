@@ -8,7 +8,7 @@ use slot_plan::owner;
 
 /// Ends the slot of a core whose phase is done. The slot's owner acts; another core snoops what the owner did in the slot.
 /// The answer is this action, or None where the bus hasn't passed another core's slot. It takes no memory.
-pub(crate) fn meet(core: &mut Core, bus: &mut Bus) -> Option<Action>
+pub fn meet(core: &mut Core, bus: &mut Bus) -> Option<Action>
     requires { CanMeet (pair core.old bus.old) }
     ensures { Meets (pair core.old bus.old) (pair core.new bus.new) result }
 {
