@@ -1,10 +1,8 @@
 -- A round of tries, a member at a time.
-use Rattle.std.proofs.Common.{◌≡◌, ◌≢◌, ℕ, ◌+◌, ◌<◌, ◌≤◌, Bool, true, false, List, length, get_or, set, sym, ap, ◌∙◌, subst, refl, arith, length-set, get_or-set_same, get_or-set_other}
+use Rattle.std.proofs.Common.{◌≡◌, ◌≢◌, ℕ, ◌+◌, ◌<◌, ◌≤◌, Bool, false, List, length, get_or, set, sym, ◌∙◌, subst, refl, arith, length-set, get_or-set_same, get_or-set_other}
 use Rattle.std.proofs.lemmas.List.{get_or_default}
 use mathlib.Core.Logic.{dite}
 use native.Mathlib.Decide.{ℕ_discrete}
-use Rattle.turn_bus.specs.Answers.{SameSeat}
-use Rattle.turn_bus.specs.declared.view.View.{View}
 use Rattle.turn_bus.specs.declared.seat.TurnBus.{TurnBus}
 use Rattle.core_worker.specs.declared.member.Member.{Member}
 use Rattle.core_worker.specs.Members.{IsMember, GoesOn, IsOver, AreMembers, GoOn, AreOver, IsRound}
@@ -40,24 +38,8 @@ module _ (bus : TurnBus) (old now : List Member) (count : ℕ) (left : Bool) (r 
         (λ differs b. r.over (over none).0 k d (omega arith)) before;
   }
 
-same_seat : (u v w : View) → SameSeat u v → SameSeat v w → SameSeat u w
-same_seat u v w a b = record { job = b.job ∙ a.job; keeps = b.keeps ∙ a.keeps; number = b.number ∙ a.number; made = b.made ∙ a.made; joined = b.joined ∙ a.joined }
-
-pub all_next : (bus : TurnBus) (old now new : List Member) → GoOn bus old now → GoOn bus now new → GoOn bus old new
-all_next bus old now new a b = record {
-  all = b.all ∙ a.all;
-  each = λ k d below. let m = a.each k d below in let n = b.each k d (subst (λ m. k < m) (sym a.all) below) in
-      record { is = n.is; seat = same_seat _ _ _ m.seat n.seat; keeps = n.keeps ∙ m.keeps };
-}
-
 pub all_of : (bus : TurnBus) (old new : List Member) → GoOn bus old new → AreMembers bus new
 all_of bus old new a k d below = (a.each k d (subst (λ m. k < m) a.all below)).is
-
-pub same_all : (bus : TurnBus) (ms : List Member) → AreMembers bus ms → GoOn bus ms ms
-same_all bus ms of = record {
-  all = refl;
-  each = λ k d below. record { is = of k d below; seat = record { job = refl; keeps = refl; number = refl; made = refl; joined = refl }; keeps = refl };
-}
 
 pub ends : (bus : TurnBus) (old now : List Member) (count : ℕ) (left : Bool) → IsRound bus old now count left → length now ≤ count → GoOn bus old now × (left ≡ false → AreOver now)
 ends bus old now count left r all = let n = r.all in (
