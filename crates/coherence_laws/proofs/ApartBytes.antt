@@ -1,7 +1,6 @@
 -- The lines of memory, and what an access finds and leaves there.
 use Rattle.std.proofs.Common.{◌≡◌, ◌≢◌, ℕ, ◌+◌, ◌-◌, ◌*◌, ◌/◌, ◌%◌, ◌<◌, ◌≤◌, List, length, drop, get_or, sym, ap, ◌∙◌, subst, arith}
 use Rattle.std.proofs.lemmas.List.{ext_get_or, length-take, length-drop}
-use Rattle.std.proofs.lemmas.Nat.{div-add-mod', mod_below}
 use Rattle.std.proofs.Math.Nat.{div-div-eq-div-mul, div-eq_of_lt-le}
 use mathlib.Core.Logic.{dite}
 use native.Mathlib.Decide.{dec_le}
@@ -43,16 +42,6 @@ same_bytes_from address width m n same each = ext_get_or 0 (bytes_from address w
 pub line_bytes-same : (shape : Geometry) (line : ℕ) (m n : List ℕ) → length m ≡ length n → SameLine shape line m n → line_bytes_in shape line m ≡ line_bytes_in shape line n
 line_bytes-same shape line m n size same = same_bytes_from (line * line_bytes shape) (line_bytes shape) m n size
     (λ place below. same (line * line_bytes shape + place) (line_of-place shape line place below))
-
--- and only there
-pub same_line-bytes : (shape : Geometry) (line : ℕ) (m n : List ℕ) → 0 < shape.line_words → line_bytes_in shape line m ≡ line_bytes_in shape line n → SameLine shape line m n
-same_line-bytes shape line m n some same at on =
-    let size : ℕ = line_bytes shape in let place : ℕ = at % line_bytes shape in
-    let below : at % line_bytes shape < line_bytes shape = mod_below at (line_bytes shape) (omega arith) in
-    let there : line * line_bytes shape + at % line_bytes shape ≡ at = ap (λ (l : ℕ). l * line_bytes shape + at % line_bytes shape) (sym on) ∙ div-add-mod' at (line_bytes shape) in
-    subst (λ (a : ℕ). get_or m a 0 ≡ get_or n a 0) there
-    (sym (get_or-bytes_from (line * line_bytes shape) (line_bytes shape) m (at % line_bytes shape) below) ∙ ap (λ (bytes : List ℕ). get_or bytes (at % line_bytes shape) 0) same
-    ∙ get_or-bytes_from (line * line_bytes shape) (line_bytes shape) n (at % line_bytes shape) below)
 
 -- the addresses of an aligned word lie on one line
 pub same_word_line : (shape : Geometry) (a b : ℕ) → a / 4 ≡ b / 4 → line_of shape a ≡ line_of shape b
