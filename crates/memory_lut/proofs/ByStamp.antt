@@ -2,7 +2,7 @@
 use Rattle.std.proofs.Common.{◌≡◌, ℕ, zero, suc, ◌+◌, ◌<◌, ◌≤◌, List, [], ◌∷◌, get_or, Option, Some, None, ◌==◌, if◌then◌else◌, option_map, refl, ap, ◌∙◌, arith}
 use Rattle.pmsi_model.specs.Machine.{request_of}
 use Rattle.memory_lut.specs.declared.entry.Entry.{Entry}
-use Rattle.memory_lut.specs.Table.{inserted, by_stamp, request_at, requests_of, posted_of, IsPlaced, AreAbove, Rises, StampsBelow, IsTable, last_stamp}
+use Rattle.memory_lut.specs.Table.{inserted, by_stamp, request_at, requests_of, posted_of, IsPlaced, AreAbove, Rises, StampsBelow, IsTable}
 
 -- ---- stamps rise
 
@@ -63,6 +63,3 @@ stamp_below n zero (None ∷ es) s b is = absurd cc
 stamp_below n zero (Some x ∷ es) s b is = grind (arith, b.0, is)
 stamp_below n (suc i) (None ∷ es) s b is = stamp_below n i es s b is
 stamp_below n (suc i) (Some x ∷ es) s b is = stamp_below n i es s b.1 is
-
-pub stamp_within : (next c : ℕ) (es : List (Option Entry)) (s : Entry) → IsTable next es → get_or es c None ≡ Some s → s.stamp < last_stamp
-stamp_within next c es s t is = omega (arith, stamp_below next c es s t.below is, t.within)
