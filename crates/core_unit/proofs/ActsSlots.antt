@@ -29,7 +29,7 @@ use Rattle.core_unit.specs.declared.state.State.{State}
 use Rattle.core_unit.specs.State.{asked, backed, core_of, fills_at_once, keeps, met_among, name_for, posted_state, row_for, served, stepped, touch_on, with_touch}
 use Rattle.core_unit.specs.Stands.{KnowsStates, StandsFor}
 use Rattle.core_unit.specs.Parts.{CanAct, HasRows, IsPart, IsPartAfter, own_touches}
-use Rattle.core_unit.specs.Acts.{CanBack, CanFillFor, CanPostFor, CanRequest, IsActed, IsBacked, IsFilled, IsPosted, IsRequested}
+use Rattle.core_unit.specs.Acts.{CanBack, CanFillFor, CanPostFor, CanRequest, IsActed, IsBacked, IsFilled, IsPosted, IsRequested, outcome}
 use Rattle.core_unit.proofs.ActsBacks.{IsWritable, back_backed, back_changes, keeps_is}
 use Rattle.core_unit.proofs.ActsCopies.{AreWords}
 use Rattle.core_unit.proofs.ActsFills.{IsServable, fill_changes, fill_served, met_now}
@@ -67,7 +67,7 @@ posted_kept want v m = by_test (λ (w : State). w.keeps ≡ v.keeps) (fills_at_o
 
 -- what the core and the bus keep stays
 requested_keeps : (post : Option ℕ) (want : Want) (v : State) (b : BusSide) (action : Action) (w : State) (after : BusSide)
-    → IsRequested post want v b action w after
+    → IsRequested post want v b (outcome action w after)
     → (w.keeps ≡ v.keeps) × (after.keeps ≡ b.keeps)
 requested_keeps None want v b action w after d = (
   ap (λ (u : State). u.keeps) d.core ∙ posted_kept want v b.memory,
@@ -210,7 +210,7 @@ module _ (job : JobValue) (slot c : ℕ) (v : State) (b : BusSide) (p : IsPartAf
         (touched_none v (backed line lines v) refl refl refl (still_standing (clear_victim line) v.pending.want))
         (rows_stay job slot c v (backed line lines v) own p.in_slot.rows (Back line (keeps line v)) (acts_back waits) refl refl)
 
-    pub acted_back : (action : Action) (w : State) (after : BusSide) → requests_now job y c ≡ false → IsBacked line lines v b action w after
+    pub acted_back : (action : Action) (w : State) (after : BusSide) → requests_now job y c ≡ false → IsBacked line lines v b (outcome action w after)
         → IsActed job slot c action (stepped w) after
     acted_back action w after waits d = record {
       what = d.what ∙ ap (Back line) keeps_line_is ∙ sym (side.back_record job slot c b is q p.more own line lines waits (backs_core (line ∷ lines) first));
@@ -315,7 +315,7 @@ module _ (job : JobValue) (slot c : ℕ) (v : State) (b : BusSide) (p : IsPartAf
           (rows_grow job slot c v filled_state own p.in_slot.rows (Fill want.line) (row_for want at v) acts_fill
           (served_row y c want at v number here mine (ap (λ (o : Option ℕ). unwrap_or o y.slot) post_is)) number refl)
 
-      acted_fill : (action : Action) (w : State) (after : BusSide) → IsFilled want at v b action w after → IsActed job slot c action (stepped w) after
+      acted_fill : (action : Action) (w : State) (after : BusSide) → IsFilled want at v b (outcome action w after) → IsActed job slot c action (stepped w) after
       acted_fill action w after d = record {
         what = d.what ∙ sym (side.fill_record job slot c b is q p.more own want asks mine posted);
         core = subst (λ (u : State). IsPart job (slot + 1) c (stepped u)) (sym d.core) fill_part;
@@ -414,7 +414,7 @@ module _ (job : JobValue) (slot c : ℕ) (v : State) (b : BusSide) (p : IsPartAf
       post_part = by_test (λ (w : State). IsPart job (slot + 1) c (stepped w)) (fills_at_once want b.memory v)
           (served want (line_in b.memory want.line) v.slot (asked want v)) (asked want v) filled_part queued_part
 
-      acted_post : (action : Action) (w : State) (after : BusSide) → IsPosted want v b action w after → IsActed job slot c action (stepped w) after
+      acted_post : (action : Action) (w : State) (after : BusSide) → IsPosted want v b (outcome action w after) → IsActed job slot c action (stepped w) after
       acted_post action w after d = record {
         what = d.what
             ∙ ap (λ (n : Name). if fills_at_once want b.memory v then PostFill n want.line else Post n want.line) name_is
@@ -435,12 +435,12 @@ module _ (job : JobValue) (slot c : ℕ) (v : State) (b : BusSide) (p : IsPartAf
     pub can_request : CanRequest want.post want v b.memory
     can_request = can_request_by want.post refl
 
-    acted_by : (o : Option ℕ) → want.post ≡ o → (action : Action) (w : State) (after : BusSide) → IsRequested o want v b action w after
+    acted_by : (o : Option ℕ) → want.post ≡ o → (action : Action) (w : State) (after : BusSide) → IsRequested o want v b (outcome action w after)
         → IsActed job slot c action (stepped w) after
     acted_by None by action w after d = acted_post by action w after d
     acted_by (Some at) by action w after d = acted_fill at by action w after d
 
-    pub acted_request : (action : Action) (w : State) (after : BusSide) → IsRequested want.post want v b action w after
+    pub acted_request : (action : Action) (w : State) (after : BusSide) → IsRequested want.post want v b (outcome action w after)
         → IsActed job slot c action (stepped w) after
     acted_request action w after d = acted_by want.post refl action w after d
 
@@ -453,12 +453,12 @@ module _ (job : JobValue) (slot c : ℕ) (v : State) (b : BusSide) (p : IsPartAf
   idle_acted made = let chosen = idles made in acted_idle chosen.0 chosen.1
 
   pub request_acted : choice_of (is_ready b.memory v.number) v.pending ≡ RequestChoice → (action : Action) (w : State) (after : BusSide)
-      → ((want : Want) → v.pending.want ≡ Some want → IsRequested want.post want v b action w after) → IsActed job slot c action (stepped w) after
+      → ((want : Want) → v.pending.want ≡ Some want → IsRequested want.post want v b (outcome action w after)) → IsActed job slot c action (stepped w) after
   request_acted made action w after done = let asks = requests made in let some = wants_some asks in
       acted_request some.0 some.1 asks action w after (done some.0 some.1)
 
   pub back_acted : choice_of (is_ready b.memory v.number) v.pending ≡ BackChoice → (action : Action) (w : State) (after : BusSide)
-      → ((line : ℕ) (lines : List ℕ) → v.pending.write_backs ≡ line ∷ lines → IsBacked line lines v b action w after)
+      → ((line : ℕ) (lines : List ℕ) → v.pending.write_backs ≡ line ∷ lines → IsBacked line lines v b (outcome action w after))
       → IsActed job slot c action (stepped w) after
   back_acted made action w after done = let chosen = writes_back made in let line : ℕ = chosen.1.0 in let lines : List ℕ = chosen.1.1 in
       let first : v.pending.write_backs ≡ line ∷ lines = ap (λ (k : CoreState). k.write_backs) (sym core) ∙ chosen.1.2 in
@@ -469,8 +469,8 @@ module _ (job : JobValue) (slot c : ℕ) (v : State) (b : BusSide) (p : IsPartAf
 -- the core does it, as the code has it
 abbrev pub Does : Choice → State → BusSide → Action → State → BusSide → Type 0
 Does IdleChoice v b action w after = (action ≡ Idle) × (w ≡ v) × (after ≡ side_idle b)
-Does RequestChoice v b action w after = (want : Want) → v.pending.want ≡ Some want → IsRequested want.post want v b action w after
-Does BackChoice v b action w after = (line : ℕ) (lines : List ℕ) → v.pending.write_backs ≡ line ∷ lines → IsBacked line lines v b action w after
+Does RequestChoice v b action w after = (want : Want) → v.pending.want ≡ Some want → IsRequested want.post want v b (outcome action w after)
+Does BackChoice v b action w after = (line : ℕ) (lines : List ℕ) → v.pending.write_backs ≡ line ∷ lines → IsBacked line lines v b (outcome action w after)
 
 -- then it acted, for each job of which it can be, and what core and bus keep stays
 pub record IsDone (v : State) (b : BusSide) (action : Action) (w : State) (after : BusSide) : Type 0 where

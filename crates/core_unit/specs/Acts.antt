@@ -17,6 +17,15 @@ use Rattle.core_unit.specs.State.{asked, backed, fills_at_once, keeps, name_for,
 use Rattle.core_unit.specs.Stands.{CanServe}
 use Rattle.core_unit.specs.Parts.{IsPart, IsPartAfter}
 
+-- an action, with the core and the bus after it
+pub record Outcome : Type 0 where
+  pub action : Action
+  pub core : State
+  pub side : BusSide
+
+abbrev pub outcome : Action → State → BusSide → Outcome
+outcome action core side = record { action = action; core = core; side = side }
+
 -- the first line is held, and owned as the bus has it, and its state can change
 pub record CanBack (line : ℕ) (lines : List ℕ) (v : State) (m : SharedValue) : Type 0 where
   pub held : Holds line v.cache.lines
@@ -24,10 +33,10 @@ pub record CanBack (line : ℕ) (lines : List ℕ) (v : State) (m : SharedValue)
   pub can : CanWriteBack v.number line (words_of line v.cache.lines) m
 
 -- the line is written back
-pub record IsBacked (line : ℕ) (lines : List ℕ) (v : State) (b : BusSide) (action : Action) (w : State) (after : BusSide) : Type 0 where
-  pub what : action ≡ Back line (keeps line v)
-  pub core : w ≡ backed line lines v
-  pub side : after ≡ side_back line (words_of line v.cache.lines) (keeps line v) b
+pub record IsBacked (line : ℕ) (lines : List ℕ) (v : State) (b : BusSide) (o : Outcome) : Type 0 where
+  pub what : o.action ≡ Back line (keeps line v)
+  pub core : o.core ≡ backed line lines v
+  pub side : o.side ≡ side_back line (words_of line v.cache.lines) (keeps line v) b
 
 -- the request of a want can be posted
 pub record CanPostFor (want : Want) (v : State) (m : SharedValue) : Type 0 where
@@ -45,20 +54,20 @@ CanRequest None want v m = CanPostFor want v m
 CanRequest (Some post) want v m = CanFillFor want v m
 
 -- the request is posted
-pub record IsPosted (want : Want) (v : State) (b : BusSide) (action : Action) (w : State) (after : BusSide) : Type 0 where
-  pub what : action ≡ posted_action want b.memory v
-  pub core : w ≡ posted_state want b.memory v
-  pub side : after ≡ side_posted v.number want.line (name_for want v) b
+pub record IsPosted (want : Want) (v : State) (b : BusSide) (o : Outcome) : Type 0 where
+  pub what : o.action ≡ posted_action want b.memory v
+  pub core : o.core ≡ posted_state want b.memory v
+  pub side : o.side ≡ side_posted v.number want.line (name_for want v) b
 
 -- the request, which was posted in the slot `post`, is served
-pub record IsFilled (want : Want) (post : ℕ) (v : State) (b : BusSide) (action : Action) (w : State) (after : BusSide) : Type 0 where
-  pub what : action ≡ Fill want.line
-  pub core : w ≡ served want (line_in b.memory want.line) post v
-  pub side : after ≡ side_filled v.number want.line b
+pub record IsFilled (want : Want) (post : ℕ) (v : State) (b : BusSide) (o : Outcome) : Type 0 where
+  pub what : o.action ≡ Fill want.line
+  pub core : o.core ≡ served want (line_in b.memory want.line) post v
+  pub side : o.side ≡ side_filled v.number want.line b
 
-abbrev pub IsRequested : Option ℕ → Want → State → BusSide → Action → State → BusSide → Type 0
-IsRequested None want v b action w after = IsPosted want v b action w after
-IsRequested (Some post) want v b action w after = IsFilled want post v b action w after
+abbrev pub IsRequested : Option ℕ → Want → State → BusSide → Outcome → Type 0
+IsRequested None want v b o = IsPosted want v b o
+IsRequested (Some post) want v b o = IsFilled want post v b o
 
 -- another core snooped the action of the slot's owner, for each job of which it can be
 abbrev pub IsSnooped : ℕ → Action → State → State → Type 0

@@ -14,7 +14,7 @@ ghost use Rattle.core_unit.specs.Changes.{mode_in_state};
 ghost use Rattle.core_unit.specs.State.{filled_on, keeps, met_among, name_for, retired_on, with_filled, with_want, words_with};
 ghost use Rattle.core_unit.specs.Stands.{CanServe, CanTake, HasTouchRoom};
 ghost use Rattle.core_unit.specs.Parts.{CanAct, IsPartAfter};
-ghost use Rattle.core_unit.specs.Acts.{CanBack, CanFillFor, CanPostFor, CanRequest, IsActed, IsBacked, IsFilled, IsPosted, IsRequested};
+ghost use Rattle.core_unit.specs.Acts.{CanBack, CanFillFor, CanPostFor, CanRequest, IsActed, IsBacked, IsFilled, IsPosted, IsRequested, outcome};
 
 use crate::change::own_event;
 use crate::state::State;
@@ -96,7 +96,7 @@ impl State {
         requires wanted { self.old.pending.want ≡ Some want.now }
         requires slot { IsOwnSlot self.old.number (P.side bus.old) }
         requires can { CanPostFor want.now self.old (P.side bus.old).memory }
-        ensures { IsPosted want.now self.old (P.side bus.old) result self.new (P.side bus.new) }
+        ensures { IsPosted want.now self.old (P.side bus.old) (outcome result self.new (P.side bus.new)) }
     {
         let name = self.name_for(want);
         let mut words = LineWords::new();
@@ -116,7 +116,7 @@ impl State {
     fn fill<P: BusPort>(&mut self, want: &Want, post: u32, bus: &mut P) -> Action
         requires slot { IsOwnSlot self.old.number (P.side bus.old) }
         requires can { CanFillFor want.now self.old (P.side bus.old).memory }
-        ensures { IsFilled want.now post self.old (P.side bus.old) result self.new (P.side bus.new) }
+        ensures { IsFilled want.now post self.old (P.side bus.old) (outcome result self.new (P.side bus.new)) }
     {
         let mut words = LineWords::new();
         bus.fill(self.number, want.line, &mut words);
@@ -154,7 +154,7 @@ impl State {
         requires slot { IsOwnSlot self.old.number (P.side bus.old) }
         requires first { (line : ℕ) (lines : List ℕ) → self.old.pending.write_backs ≡ line ∷ lines → CanBack line lines self.old (P.side bus.old).memory }
         ensures { (line : ℕ) (lines : List ℕ) → self.old.pending.write_backs ≡ line ∷ lines →
-            IsBacked line lines self.old (P.side bus.old) result self.new (P.side bus.new) }
+            IsBacked line lines self.old (P.side bus.old) (outcome result self.new (P.side bus.new)) }
     {
         let line = self.pending.pop();
         let keep = self.keeps(line);
@@ -176,7 +176,7 @@ impl State {
         requires slot { IsOwnSlot self.old.number (P.side bus.old) }
         requires can { (want : Want) → self.old.pending.want ≡ Some want → CanRequest want.post want self.old (P.side bus.old).memory }
         ensures { (want : Want) → self.old.pending.want ≡ Some want →
-            IsRequested want.post want self.old (P.side bus.old) result self.new (P.side bus.new) }
+            IsRequested want.post want self.old (P.side bus.old) (outcome result self.new (P.side bus.new)) }
     {
         let Some(want) = self.pending.want() else {
             unreachable!()
