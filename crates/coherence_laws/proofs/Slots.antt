@@ -1,6 +1,5 @@
 -- The facts of all cores hold at each slot boundary.
 use Rattle.std.proofs.Common.{◌≡◌, ◌≢◌, ℕ, zero, suc, ◌+◌, ◌<◌, ◌≤◌, List, [], ◌∷◌, Option, Some, None, is_some, true, false, refl, sym, ap, ◌∙◌, subst, arith}
-use Rattle.std.proofs.lemmas.Nat.{mod_below}
 use mathlib.Core.Logic.{dite}
 use native.Mathlib.Decide.{dec_le}
 use Rattle.std.specs.Option.{option_map}
@@ -15,6 +14,7 @@ use Rattle.pmsi_model.specs.declared.Want.{Want}
 use Rattle.pmsi_model.specs.Job.{JobValue, IsJob}
 use Rattle.pmsi_model.specs.Machine.{Machine, CoreState, mode_of, mode_in, nobody_owns}
 use Rattle.pmsi_model.specs.Phase.{phases}
+use Rattle.pmsi_model.specs.Slots.{plan_of}
 use Rattle.pmsi_model.specs.Bus.{is_served, can_request_for, requests_now, name_of, kind_of_name, post, post_at, fill, post_action, request_action, back_action, action_of, after_action}
 use Rattle.pmsi_model.specs.Run.{start_core, start_of, after_phases, slot_done, machine_at, slot_owner}
 use Rattle.pmsi_model.specs.Coherent.{IsCoherent}
@@ -22,6 +22,7 @@ use Rattle.pmsi_model.proofs.Boundaries.{phases-slot, machine_at-slot}
 use Rattle.pmsi_model.proofs.Changes.{post-own}
 use Rattle.pmsi_model.proofs.Owners.{nobody_below}
 use Rattle.pmsi_model.proofs.Cases.{by_test}
+use Rattle.pmsi_model.proofs.Distances.{slot_owner_below}
 use Rattle.coherence_laws.specs.Laws.{StaysCoherent}
 use Rattle.coherence_laws.proofs.Whole.{IsWhole, whole_coherent, whole_later}
 use Rattle.coherence_laws.proofs.Acts.{post_whole, fill_whole, back_whole}
@@ -130,7 +131,7 @@ slot_whole job x cores ways w =
     let before : IsWhole job.shape (x.slot + 1) y.posted y.cores =
     phases_whole job job.shape.cores x ways (omega arith) (whole_later job.shape x.slot x.posted x.cores w) in
     subst (λ (s : ℕ). IsWhole job.shape (s + 1) (after_action y c (action_of job y c)).posted (after_action y c (action_of job y c)).cores) same
-    (action_whole job y c (subst (λ (s : ℕ). IsWhole job.shape (s + 1) y.posted y.cores) (sym same) before) (mod_below x.slot job.shape.cores cores))
+    (action_whole job y c (subst (λ (s : ℕ). IsWhole job.shape (s + 1) y.posted y.cores) (sym same) before) (slot_owner_below (plan_of job) x.slot cores))
 
 pub whole_at : (job : JobValue) → IsJob job → (slot : ℕ)
     → IsWhole job.shape (machine_at job slot).slot (machine_at job slot).posted (machine_at job slot).cores

@@ -2,7 +2,6 @@
 use Rattle.std.proofs.Common.{◌≡◌, ◌≢◌, ℕ, ◌+◌, ◌-◌, ◌*◌, ◌/◌, ◌<◌, ◌≤◌, List, [], ◌∷◌, ◌++◌, length, drop, get_or, Some, None, is_some, Bool, true, false, if◌then◌else◌, refl, sym, ap, ◌∙◌, subst, arith, length-append, length-drop}
 use Rattle.std.specs.Option.{option_map}
 use Rattle.std.proofs.lemmas.List.{drop-append-le, drop-drop}
-use Rattle.std.proofs.lemmas.Nat.{mod_below}
 use Rattle.pmsi_model.specs.declared.job.Geometry.{Geometry}
 use Rattle.pmsi_model.specs.declared.Action.{Action}
 use Rattle.pmsi_model.specs.declared.Action.TheVariants.{Idle, Post, Fill, PostFill, Back}
@@ -22,6 +21,7 @@ use Rattle.pmsi_model.specs.Parts.{word_at, IsSharedOf, IsBusPart}
 use Rattle.pmsi_model.proofs.Boundaries.{phases-slot, machine_at-slot, next_machine, next_records}
 use Rattle.pmsi_model.proofs.Cases.{by_test}
 use Rattle.pmsi_model.proofs.Changes.{post-own, post-memory}
+use Rattle.pmsi_model.proofs.Distances.{slot_owner_below}
 use Rattle.pmsi_model.proofs.Owners.{nobody_none, owner_alone, owner_same}
 use Rattle.coherence_laws.proofs.Exports.{stays_memory, IsAsked, want_asked_between, kind_named, phases_coherent}
 use Rattle.core_unit.proofs.Sides.{side_carried, line_in-length, line_in-word, asked_at, asked_below, line_within, shared_posted, IsFillable, shared_filled, IsBackable, shared_back}
@@ -107,7 +107,7 @@ module _ (job : JobValue) (slot c : ℕ) (b : BusSide) (is : IsJob job) (part : 
   side_now = side_carried job slot b.memory is part.memory
 
   pub owner_within : c < job.shape.cores
-  owner_within = subst (λ (d : ℕ). d < job.shape.cores) own (mod_below slot job.shape.cores (let some = is.shape.some_cores in omega arith))
+  owner_within = subst (λ (d : ℕ). d < job.shape.cores) own (slot_owner_below (plan_of job) slot is.shape.some_cores)
 
   pub coherent_now : IsCoherent job.shape (record (after_phases job (machine_at job slot)) { slot = slot + 1 })
   coherent_now = phases_coherent job is slot job.shape.cores (omega arith)

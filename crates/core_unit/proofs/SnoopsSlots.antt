@@ -1,7 +1,6 @@
 -- A core that snoops another core's action ends its slot.
 use Rattle.std.proofs.Common.{◌≡◌, ◌≢◌, ℕ, ◌+◌, ◌*◌, ◌^◌, ◌<◌, ◌≤◌, List, [], ◌++◌, length, Option, Some, None, Bool, ◌==◌, inl, refl, sym, ap, ◌∙◌, subst, append-nil, arith}
 use Rattle.std.proofs.lemmas.List.Elements.{filter-append}
-use Rattle.std.proofs.lemmas.Nat.{mod_below}
 use Rattle.std.specs.List.{filter}
 use Rattle.pmsi_model.specs.declared.Action.{Action}
 use Rattle.pmsi_model.specs.declared.Action.TheVariants.{Idle, Post, Fill, PostFill, Back}
@@ -16,6 +15,7 @@ use Rattle.pmsi_model.specs.Bus.{after_action}
 use Rattle.pmsi_model.specs.Rows.{action_row, row_of, rows_of, slot_rows}
 use Rattle.pmsi_model.specs.Run.{after_phases, machine_at, record_at, slot_done}
 use Rattle.pmsi_model.proofs.Boundaries.{machine_at-slot, next_machine, next_rows, phases-slot}
+use Rattle.pmsi_model.proofs.Distances.{slot_owner_below}
 use Rattle.coherence_laws.proofs.Exports.{want_asked_between, phases_at, IsWhole}
 use Rattle.pmsi_model.proofs.OwnSlots.{own_grows}
 use Rattle.core_unit.specs.declared.state.State.{State}
@@ -83,7 +83,7 @@ module _ (job : JobValue) (slot d : ℕ) (v : State) (p : IsPartAfter job slot d
   before = record { stands = carried job slot d v p; knows = knows_carried job slot d v p }
 
   all : IsActionSnooped job y c d v (record_at job slot)
-  all = action_snooped job y c d v whole (mod_below x.slot job.shape.cores is.shape.some_cores) other (want_asked_between job is slot job.shape.cores c) before
+  all = action_snooped job y c d v whole (slot_owner_below (plan_of job) x.slot is.shape.some_cores) other (want_asked_between job is slot job.shape.cores c) before
 
   -- there is room for what the core learns
   pub snoop_room : CanSnoopAction (record_at job slot) v

@@ -34,3 +34,7 @@ distance_falls_below plan c slot below p other = dite (ℕ_discrete (slot % plan
 pub distance_falls : (plan : SlotPlan) (c slot : ℕ) → c < plan.cores → owner_of_slot plan slot ≢ c
     → distance plan c (slot + 1) + 1 ≡ distance plan c slot
 distance_falls plan c slot below other = distance_falls_below plan c slot below (mod_below slot plan.cores (omega arith)) other
+
+-- the owner of a slot is some core
+pub slot_owner_below : (plan : SlotPlan) (slot : ℕ) → 0 < plan.cores → owner_of_slot plan slot < plan.cores
+slot_owner_below plan slot some = mod_below slot plan.cores some

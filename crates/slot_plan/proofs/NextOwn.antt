@@ -1,19 +1,14 @@
 -- The slot at a core's distance is its next own one.
-use Rattle.std.proofs.Common.{◌≡◌, ◌≢◌, ℕ, zero, suc, ◌+◌, ◌-◌, ◌%◌, ◌<◌, ◌≤◌, ap, ◌∙◌, sym, arith, subst}
-use Rattle.std.proofs.lemmas.Nat.{mod_below}
+use Rattle.std.proofs.Common.{◌≡◌, ◌≢◌, ℕ, zero, suc, ◌+◌, ◌-◌, ◌<◌, ◌≤◌, ap, ◌∙◌, sym, arith, subst}
 use mathlib.Core.Logic.{dite}
 use native.Mathlib.Decide.{ℕ_discrete}
 use Rattle.pmsi_model.specs.Slots.{SlotPlan, owner_of_slot, distance}
 use Rattle.slot_plan.specs.Plans.{IsNextOwn, DistanceToNextOwn}
-use Rattle.pmsi_model.proofs.Distances.{distance_some, distance_within, distance_own, distance_falls}
-
--- the owner is some core
-owner_below : (plan : SlotPlan) (c slot : ℕ) → c < plan.cores → owner_of_slot plan slot < plan.cores
-owner_below plan c slot below = mod_below slot plan.cores (omega arith)
+use Rattle.pmsi_model.proofs.Distances.{distance_some, distance_within, distance_own, distance_falls, slot_owner_below}
 
 -- a slot at distance 1 is an own one
 own_at_one : (plan : SlotPlan) (c slot : ℕ) → c < plan.cores → distance plan c slot ≡ 1 → owner_of_slot plan slot ≡ c
-own_at_one plan c slot below one = let p = owner_below plan c slot below in grind arith
+own_at_one plan c slot below one = let p = slot_owner_below plan slot (omega arith) in grind arith
 
 not_own : (plan : SlotPlan) (c slot : ℕ) → distance plan c slot ≢ 1 → owner_of_slot plan slot ≢ c
 not_own plan c slot more own = more (distance_own plan c slot own)
@@ -69,8 +64,7 @@ one_next plan c slot next other is also = dite (ℕ_discrete next other)
 
 core_below : (plan : SlotPlan) (c slot next : ℕ) → IsNextOwn plan c slot next → c < plan.cores
 core_below plan c slot next is = let from = is.not_below in let soon = is.soon in
-    let p : next % plan.cores < plan.cores = mod_below next plan.cores (omega arith) in
-    let own : next % plan.cores ≡ c = is.own in subst (λ (n : ℕ). n < plan.cores) own p
+    subst (λ (n : ℕ). n < plan.cores) is.own (slot_owner_below plan next (omega arith))
 
 pub distance_to_next : DistanceToNextOwn
 distance_to_next plan c slot next is =

@@ -1,6 +1,5 @@
 -- What is left for a want falls with each slot, so waits are bounded.
 use Rattle.std.proofs.Common.{◌≡◌, ℕ, zero, suc, ◌+◌, ◌-◌, ◌<◌, ◌≤◌, Option, Some, None, refl, sym, ap, ◌∙◌, subst, arith}
-use Rattle.std.proofs.lemmas.Nat.{mod_below}
 use Rattle.pmsi_model.specs.declared.Want.{Want}
 use Rattle.pmsi_model.specs.Job.{JobValue, IsJob}
 use Rattle.pmsi_model.specs.Slots.{plan_of, owner_of_slot, bound_of}
@@ -9,6 +8,7 @@ use Rattle.pmsi_model.specs.Bus.{action_of, after_action}
 use Rattle.pmsi_model.specs.Run.{start_of, slot_done, machine_at, slot_owner}
 use Rattle.pmsi_model.specs.Waiting.{left_for}
 use Rattle.pmsi_model.proofs.Boundaries.{next_machine}
+use Rattle.pmsi_model.proofs.Distances.{slot_owner_below}
 use Rattle.coherence_laws.proofs.Exports.{IsWhole}
 use Rattle.waiting_laws.specs.Laws.{LeftFalls, StartsBelowBound, AlwaysBounded}
 use Rattle.waiting_laws.proofs.Steps.{left_most}
@@ -26,7 +26,7 @@ owner_at-phased : (job : JobValue) (slot : ℕ) → slot_owner job (phased job s
 owner_at-phased job slot = ap (owner_of_slot (plan_of job)) ((phased_calm job slot).same_slot)
 
 pub owner_at-below : (job : JobValue) → IsJob job → (slot : ℕ) → owner_at job slot < job.shape.cores
-owner_at-below job is slot = mod_below (machine_at job slot).slot job.shape.cores is.shape.some_cores
+owner_at-below job is slot = slot_owner_below (plan_of job) (machine_at job slot).slot is.shape.some_cores
 
 -- the machine after the action of a slot
 abbrev acted : JobValue → ℕ → Machine
