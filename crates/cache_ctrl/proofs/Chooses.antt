@@ -9,8 +9,8 @@ use Rattle.pmsi_model.specs.Geometry.{line_of}
 use Rattle.pmsi_model.specs.Machine.{CoreState, Request, mode_of, has_line, has_request, has_write, request_of}
 use Rattle.pmsi_model.specs.Bus.{has_victim_for}
 use Rattle.pmsi_model.specs.Coherent.{HoldsEachOnce, posted_request}
-use Rattle.pmsi_model.specs.Phase.{Context, evicted, drop_shared, victim_of, append_victim, missed, touched_line, accessed}
-use Rattle.pmsi_model.proofs.Held.{mode_without, mode_to_front, evicted_held}
+use Rattle.pmsi_model.specs.Phase.{Context, evicted, drop_shared, victim_of, append_victim, missed, accessed}
+use Rattle.pmsi_model.proofs.Held.{mode_without, evicted_held, mode_dropped, mode_touched}
 use Rattle.pmsi_model.proofs.WriteBacks.{line_append_once}
 use Rattle.cache_ctrl.specs.declared.Event.TheVariants.{Choose}
 use Rattle.cache_ctrl.specs.declared.Duty.{Duty}
@@ -69,11 +69,6 @@ chooses shape slot access posted c k h once f idle is =
     chooses_in shape slot access posted c k h.0 h.1 f idle e.0
     ∙ ap (λ g. Some (state_in posted c (missed_with shape slot access g k) h.0, choose_duty h.1 (has_line h.0 k.write_backs))) (sym is)
 
-gone_mode : (gone : Option (ℕ × Mode)) (l : ℕ) (held : List (ℕ × Mode)) → ((h : ℕ × Mode) → gone ≡ Some h → l ≢ h.0) → mode_of l (drop_shared gone held) ≡ mode_of l held
-gone_mode None l held away = refl
-gone_mode (Some (line, Shared)) l held away = let apart : l ≢ line = away (line, Shared) refl in grind (arith, mode_without l line held)
-gone_mode (Some (line, Modified)) l held away = refl
-
 gone_back : (gone : Option (ℕ × Mode)) (l : ℕ) (backs : List ℕ) → ((h : ℕ × Mode) → gone ≡ Some h → l ≢ h.0) → has_line l (append_victim (victim_of gone) backs) ≡ has_line l backs
 gone_back None l backs away = refl
 gone_back (Some (line, Shared)) l backs away = refl
@@ -98,13 +93,9 @@ misses_else shape slot access posted c k l idle away =
     (stays_shared posted k l) (stays_shared posted j l)
     (has_request l (behind_of c posted)) (has_request l (behind_of c posted))
     (has_write l (behind_of c posted)) (has_write l (behind_of c posted))
-    refl (gone_mode gone l k.held away) (gone_back gone l k.write_backs away) (grind (arith, gone_victim shape slot access gone l k away, before)) (λ some. refl) (λ some. refl)
+    refl (mode_dropped gone l k.held away) (gone_back gone l k.write_backs away) (grind (arith, gone_victim shape slot access gone l k away, before)) (λ some. refl) (λ some. refl)
 
 -- an access with permission leaves the states
-mode_touched : (l line : ℕ) (mode : Option Mode) (held : List (ℕ × Mode)) → mode_of line held ≡ mode → mode_of l (touched_line mode line held) ≡ mode_of l held
-mode_touched l line None held is = refl
-mode_touched l line (Some mode) held is = grind (arith, mode_to_front l line mode held)
-
 pub accesses_same : (shape : Geometry) (access : Access) (x : Context) (posted : List Request) (c l : ℕ) → state_in posted c (accessed shape access x).core l ≡ state_in posted c x.core l
 unfolding state_in
 accesses_same shape access x posted c l =

@@ -2,15 +2,13 @@
 use Rattle.std.proofs.Common.{◌≡◌, ◌≢◌, ℕ, List, Bool, true, false, ◌&&◌, ◌||◌, Option, Some, None, is_some, ◌==◌, if◌then◌else◌, refl, sym, ap, ◌∙◌, arith}
 use Rattle.pmsi_model.specs.declared.Kind.{Kind}
 use Rattle.pmsi_model.specs.declared.Kind.TheVariants.{Read, Write}
-use Rattle.pmsi_model.specs.declared.Mode.{Mode}
-use Rattle.pmsi_model.specs.declared.Mode.TheVariants.{Shared, Modified}
+use Rattle.pmsi_model.specs.declared.Mode.TheVariants.{Modified}
 use Rattle.pmsi_model.specs.declared.Want.{Want}
 use Rattle.pmsi_model.specs.Machine.{Machine, CoreState, Request, mode_of, is_shared, is_write, has_line, has_request, has_write, first_of, request_of, removed}
-use Rattle.pmsi_model.specs.Bus.{has_victim_for, filled_line, append_demanded}
+use Rattle.pmsi_model.specs.Bus.{has_victim_for, append_demanded}
 use Rattle.pmsi_model.specs.Coherent.{posted_request, victim_in}
-use Rattle.pmsi_model.proofs.Changes.{filled_core}
-use Rattle.pmsi_model.proofs.Held.{mode_to_front}
-use Rattle.pmsi_model.proofs.Requests.{request_less, has_request_else, has_write_else}
+use Rattle.pmsi_model.proofs.Changes.{filled_core, mode_filled}
+use Rattle.pmsi_model.proofs.Requests.{request_less, has_request_else, has_write_else, write_waits}
 use Rattle.pmsi_model.proofs.WriteBacks.{line_more}
 use Rattle.cache_ctrl.specs.declared.Event.TheVariants.{OwnFill}
 use Rattle.cache_ctrl.specs.declared.Duty.{Duty}
@@ -20,18 +18,12 @@ use Rattle.pmsi_model.specs.Named.{posted_state, asked_of, behind_of, state_in, 
 use Rattle.cache_ctrl.specs.Duties.{backs_by}
 use Rattle.cache_ctrl.proofs.Cells.{cell_fill, same_state}
 use Rattle.cache_ctrl.proofs.Behind.{has_behind_first, write_behind_first}
-use Rattle.cache_ctrl.proofs.Settled.{IsSettled, write_has}
+use Rattle.cache_ctrl.proofs.Settled.{IsSettled}
 use Rattle.cache_ctrl.proofs.Own.{want_request}
 
 -- the duty at a fill: who owns the line with requests behind has to write it back
 abbrev pub fill_duty : Kind → Bool → Duty
 fill_duty kind behind = if is_write kind && behind then Append else Nothing
-
-filled_mode : (kind : Kind) (behind : Bool) (l line : ℕ) (held : List (ℕ × Mode))
-    → mode_of l (filled_line kind behind line held) ≡ (if l == line then (if is_write kind then Some Modified else (if behind then mode_of line held else Some Shared)) else mode_of l held)
-filled_mode Write behind l line held = grind (arith, mode_to_front l line Modified held)
-filled_mode Read true l line held = grind arith
-filled_mode Read false l line held = grind (arith, mode_to_front l line Shared held)
 
 -- what is to be written back is so by the duty
 pub filled_backs : (kind : Kind) (behind : Bool) (line : ℕ) (backs : List ℕ) → append_demanded kind behind line backs ≡ backs_by (fill_duty kind behind) line backs
@@ -65,8 +57,8 @@ own_fills x c want f is post first =
     (cell_fill want.kind (mode_of line k.held) (mode_of line (filled_core x c want).held)
     (has_line line k.write_backs) (stays_shared x.posted k line) (has_request line (behind_of c x.posted)) (has_write line (behind_of c x.posted))
     (has_line line (filled_core x c want).write_backs) (stays_shared rest (filled_core x c want) line) (has_request line (behind_of c rest)) (has_write line (behind_of c rest))
-    (λ read. f.posted_unheld r mine read) (write_has line (behind_of c x.posted))
-    (grind (arith, filled_mode want.kind (has_write line rest) line line k.held, write_behind_first c line x.posted f.once first))
+    (λ read. f.posted_unheld r mine read) (write_waits line (behind_of c x.posted))
+    (grind (arith, mode_filled want.kind (has_write line rest) line line k.held, write_behind_first c line x.posted f.once first))
     (λ write. grind (arith, backs_line want.kind (has_request line rest) line line k.write_backs, has_behind_first c line x.posted f.once first))
     (grind (arith, has_behind_first c line x.posted f.once first, write_behind_first c line x.posted f.once first)))
 
@@ -90,7 +82,7 @@ own_fills_else x c want l f is post away =
     (has_request l (behind_of c x.posted)) (has_request l (behind_of c rest))
     (has_write l (behind_of c x.posted)) (has_write l (behind_of c rest))
     (grind (arith, request_less c c x.posted))
-    (grind (arith, filled_mode want.kind (has_write want.line rest) l want.line k.held))
+    (grind (arith, mode_filled want.kind (has_write want.line rest) l want.line k.held))
     (grind (arith, backs_line want.kind (has_request want.line rest) l want.line k.write_backs))
     (grind (arith, has_request_else l c x.posted r f.once mine apart, has_write_else l c x.posted r f.once mine apart, unvictim))
     (λ some. absurd (some free)) (λ some. absurd (some free))

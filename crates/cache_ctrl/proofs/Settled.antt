@@ -1,5 +1,5 @@
 -- The facts of a core that its states rest on.
-use Rattle.std.proofs.Common.{◌≡◌, ◌≢◌, ◌⊎◌, ℕ, List, [], ◌∷◌, true, not, ◌&&◌, Option, Some, None, refl, sym, ap, ◌∙◌, arith}
+use Rattle.std.proofs.Common.{◌≡◌, ◌≢◌, ◌⊎◌, ℕ, List, true, not, ◌&&◌, Option, Some, None, refl, sym, ap, ◌∙◌, arith}
 use Rattle.pmsi_model.specs.declared.job.Geometry.{Geometry}
 use Rattle.pmsi_model.specs.declared.Kind.TheVariants.{Read, Write}
 use Rattle.pmsi_model.specs.declared.Mode.{Mode}
@@ -9,6 +9,8 @@ use Rattle.pmsi_model.specs.Machine.{Machine, CoreState, Request, mode_of, mode_
 use Rattle.pmsi_model.specs.Bus.{has_victim_for}
 use Rattle.pmsi_model.specs.Coherent.{IsCoherent, RequestsOnce, ListsEachOnce, HoldsEachOnce, posted_request, victim_in}
 use Rattle.pmsi_model.specs.Named.{asked_of, behind_of, stays_shared}
+use Rattle.pmsi_model.proofs.Cases.{none_by}
+use Rattle.pmsi_model.proofs.Requests.{write_waits}
 use Rattle.cache_ctrl.proofs.Cells.{AreFit}
 use Rattle.cache_ctrl.proofs.Behind.{writer_of, behind_once, behind_request}
 
@@ -25,10 +27,6 @@ pub record IsSettled (posted : List Request) (c : ℕ) (k : CoreState) : Type 0 
   pub back_owned : (line : ℕ) → has_line line k.write_backs ≡ true → mode_of line k.held ≡ Some Modified
   pub back_due : (line : ℕ) → has_line line k.write_backs ≡ true → (victim_in k.want ≡ Some line) ⊎ (has_request line posted ≡ true)
   pub victim_waits : (victim : ℕ) → victim_in k.want ≡ Some victim → has_line victim k.write_backs ≡ true
-
-none_by : (o : Option ℕ) → ((n : ℕ) → o ≢ Some n) → o ≡ None
-none_by None never = refl
-none_by (Some n) never = absurd (never n refl)
 
 -- they hold of each core of a coherent machine
 free_of : (shape : Geometry) (x : Machine) → IsCoherent shape x → (c : ℕ) (o : Option Want) → (x.cores c).want ≡ o → request_of c x.posted ≢ None → victim_in o ≡ None
@@ -74,10 +72,6 @@ victim_back : (line : ℕ) (o : Option Want) → victim_in o ≡ Some line → h
 victim_back line None is = absurd (grind arith)
 victim_back line (Some want) is = grind arith
 
-pub write_has : (line : ℕ) (rs : List Request) → has_write line rs ≡ true → has_request line rs ≡ true
-write_has line [] is = is
-write_has line (x ∷ rs) is = grind (arith, write_has line rs)
-
 -- a core that asks for a line has a request for it
 pub asks : (c line : ℕ) (posted : List Request) (o : Option Request) → request_of c posted ≡ o → asked_of line o ≢ None
     → (r : Request) × (request_of c posted ≡ Some r) × (r.line ≡ line) × (asked_of line o ≡ Some r.kind)
@@ -91,8 +85,8 @@ pub fit_of : (posted : List Request) (c : ℕ) (k : CoreState) → IsSettled pos
     → AreFit (asked_of line (request_of c posted)) (mode_of line k.held) (has_line line k.write_backs) (stays_shared posted k line)
     (not (has_write line posted) && not (has_victim_for line k.want)) (has_write line (behind_of c posted))
 fit_of posted c k f line = record {
-  fresh = λ owned idle. grind (arith, f.demanded_waits line owned, f.victim_waits line, victim_for line k.want, write_has line posted);
-  steady = λ waits. grind (arith, f.back_due line waits, victim_back line k.want, write_has line posted);
+  fresh = λ owned idle. grind (arith, f.demanded_waits line owned, f.victim_waits line, victim_for line k.want, write_waits line posted);
+  steady = λ waits. grind (arith, f.back_due line waits, victim_back line k.want, write_waits line posted);
   unowned = λ some. let a = asks c line posted (request_of c posted) refl some in ap_not line k.held a.0.line a.2 (f.posted_unowned a.0 a.1);
   unheld = λ read. let a = asks c line posted (request_of c posted) refl (λ none. grind arith) in
       ap (λ (l : ℕ). mode_of l k.held) (sym a.2) ∙ f.posted_unheld a.0 a.1 (grind (arith, a.3));

@@ -9,9 +9,9 @@ use Rattle.pmsi_model.specs.declared.Kind.TheVariants.{Read, Write}
 use Rattle.pmsi_model.specs.declared.Mode.{Mode}
 use Rattle.pmsi_model.specs.declared.Mode.TheVariants.{Shared, Modified}
 use Rattle.pmsi_model.specs.declared.Want.{Want}
-use Rattle.pmsi_model.specs.Machine.{Machine, Request, CoreState, mode_of, mode_in, is_write, without, with_mode, has_write, request_of, removed}
+use Rattle.pmsi_model.specs.Machine.{Machine, Request, CoreState, mode_of, mode_in, without, with_mode, has_write, request_of, removed}
 use Rattle.pmsi_model.specs.Bus.{post, post_at, noted_post, fill, fill_for, filled_line, write_back, has_victim_for, keeps_line}
-use Rattle.pmsi_model.proofs.Changes.{posted_core, filled_core, written_core, noted-mode, noted-want, noted-unheld}
+use Rattle.pmsi_model.proofs.Changes.{posted_core, filled_core, written_core, noted-mode, noted-want, noted-unheld, mode_filled}
 use Rattle.pmsi_model.proofs.Held.{mode_without, mode_to_front, mode_with_mode}
 use Rattle.pmsi_model.proofs.Requests.{request_more, request_less, requests_once_more, requests_once_less}
 use Rattle.pmsi_model.proofs.Cases.{at_core, own_core, other_core}
@@ -73,12 +73,6 @@ post_whole shape x c want w below is unposted free =
 
 -- ---- fill
 
-filled_mode : (kind : Kind) (behind : Bool) (l line : ℕ) (held : List (ℕ × Mode))
-    → mode_of l (filled_line kind behind line held) ≡ (if l == line then (if is_write kind then Some Modified else (if behind then mode_of line held else Some Shared)) else mode_of l held)
-filled_mode Write behind l line held = grind (arith, mode_to_front l line Modified held)
-filled_mode Read true l line held = grind arith
-filled_mode Read false l line held = grind (arith, mode_to_front l line Shared held)
-
 filled_alone : (old new : ℕ → CoreState) (c line : ℕ) → OwnedAlone old → ((d : ℕ) → d ≢ c → new d ≡ old d)
     → ((l : ℕ) → l ≢ line → mode_of l (new c).held ≡ mode_of l (old c).held)
     → ((d : ℕ) → mode_of line (old d).held ≢ Some Modified)
@@ -128,7 +122,7 @@ fill_changed shape slot posted cores c want k w below is post unowned fine held_
       fine = at_core (FineCore shape slot rest) c k cores fine
           (λ d other. fine_rest shape slot posted c d (cores d).held (cores d).want (cores d).write_backs (cores d).status r (w.fine d) other w.once mine (unowned d));
       alone = filled_alone cores new c want.line w.alone others
-          (λ l other. ap (mode_of l) own_held ∙ grind (arith, filled_mode want.kind (has_write want.line rest) l want.line (cores c).held))
+          (λ l other. ap (mode_of l) own_held ∙ grind (arith, mode_filled want.kind (has_write want.line rest) l want.line (cores c).held))
           unowned
           (λ owned d other. w.write_alone c d r mine (filled_unowned want.kind (has_write want.line rest) want.line (cores c).held (unowned c) (sym (ap (mode_of want.line) own_held) ∙ owned)) other);
       once = requests_once_less c posted w.once;

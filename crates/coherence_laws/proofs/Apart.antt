@@ -7,38 +7,21 @@ use Rattle.pmsi_model.specs.declared.Mode.TheVariants.{Shared, Modified}
 use Rattle.pmsi_model.specs.Geometry.{line_of}
 use Rattle.pmsi_model.specs.Job.{JobValue, IsJob, text_of}
 use Rattle.pmsi_model.specs.Machine.{Machine, CoreState, mode_of, mode_in, is_modified, owner_of}
-use Rattle.pmsi_model.specs.Phase.{Context, instructions, instruction_touches, context_of, phase, phase_touches, phases}
+use Rattle.pmsi_model.specs.Phase.{instructions, instruction_touches, context_of, phase, phase_touches, phases}
 use Rattle.pmsi_model.specs.Run.{after_phases, machine_at}
 use Rattle.pmsi_model.specs.Coherent.{HoldsEachOnce}
-use Rattle.pmsi_model.proofs.Cases.{own_core, other_core}
 use Rattle.pmsi_model.proofs.Owners.{nobody_below, owner_none, owner_same}
 use Rattle.coherence_laws.specs.Apart.{line_bytes_in, IsApart, PhasesAreApart}
 use Rattle.coherence_laws.proofs.Whole.{OwnedAlone}
 use Rattle.coherence_laws.proofs.Slots.{stays_coherent}
 use Rattle.coherence_laws.proofs.ApartBytes.{line_bytes-same}
 use Rattle.pmsi_model.proofs.Effects.{whole_words}
+use Rattle.pmsi_model.proofs.Changes.{phase_end, phase-own, phase-other, phase-memory}
 use Rattle.coherence_laws.proofs.ApartPhases.{touches_alike, IsFramed, instructions_framed, IsSeenAlike, instructions_alike}
 use Rattle.coherence_laws.proofs.ApartMemory.{machine_memory}
 use Rattle.coherence_laws.proofs.Touches.{touches_apart}
 
 -- ---- the phase of one core
-
--- its instructions
-abbrev pub phase_context : JobValue → ℕ → Machine → Context
-phase_context job c x = instructions job.shape x.slot (text_of job c) job.shape.quantum (context_of x c)
-
-pub phase-own : (job : JobValue) (c : ℕ) (x : Machine) → (phase job c x).cores c ≡ (phase_context job c x).core
-unfolding phase
-phase-own job c x = own_core c (phase_context job c x).core x.cores
-
-pub phase-memory : (job : JobValue) (c : ℕ) (x : Machine) → (phase job c x).memory ≡ (phase_context job c x).memory
-unfolding phase
-phase-memory job c x = refl
-
--- other cores stay
-pub phase-other : (job : JobValue) (c : ℕ) (x : Machine) (d : ℕ) → d ≢ c → (phase job c x).cores d ≡ x.cores d
-unfolding phase
-phase-other job c x d other = other_core c (phase_context job c x).core x.cores d other
 
 -- what holds of the machine at a slot boundary
 pub record IsSound (job : JobValue) (x : Machine) : Type 0 where
@@ -55,14 +38,14 @@ sound_at job is slot = record {
   alone = (stays_coherent job is slot).owned_alone;
 }
 
-pub phase_framed : (job : JobValue) (c : ℕ) (x : Machine) → IsSound job x → IsFramed job.shape (context_of x c) (phase_context job c x)
+pub phase_framed : (job : JobValue) (c : ℕ) (x : Machine) → IsSound job x → IsFramed job.shape (context_of x c) (phase_end job c x)
 phase_framed job c x s = instructions_framed job.shape x.slot (text_of job c) job.shape.quantum (context_of x c) s.words s.extent (s.once c)
 
 -- a phase depends on its core, and on the bytes of the lines that the core holds
 contexts_alike : (job : JobValue) (c : ℕ) (x y : Machine) → IsSound job x → y.slot ≡ x.slot → IsSeenAlike job.shape (context_of x c) (context_of y c)
-    → IsSeenAlike job.shape (phase_context job c x) (phase_context job c y)
+    → IsSeenAlike job.shape (phase_end job c x) (phase_end job c y)
 contexts_alike job c x y s now seen =
-    subst (λ (slot : ℕ). IsSeenAlike job.shape (phase_context job c x) (instructions job.shape slot (text_of job c) job.shape.quantum (context_of y c))) (sym now)
+    subst (λ (slot : ℕ). IsSeenAlike job.shape (phase_end job c x) (instructions job.shape slot (text_of job c) job.shape.quantum (context_of y c))) (sym now)
     (instructions_alike job.shape x.slot (text_of job c) job.shape.quantum (context_of x c) (context_of y c) s.words (s.once c) s.extent seen)
 
 pub phase_touches_alike : (job : JobValue) (c : ℕ) (x y : Machine) → IsSound job x → y.slot ≡ x.slot → IsSeenAlike job.shape (context_of x c) (context_of y c)
@@ -77,10 +60,10 @@ phase_touches_alike job c x y s now seen =
 pub record IsApartTo (job : JobValue) (x : Machine) (count : ℕ) (y : Machine) : Type 0 where
   pub slot : y.slot ≡ x.slot
   pub extent : length y.memory ≡ job.shape.memory
-  pub own : (d : ℕ) → d < count → y.cores d ≡ (phase_context job d x).core
+  pub own : (d : ℕ) → d < count → y.cores d ≡ (phase_end job d x).core
   pub rest : (d : ℕ) → count ≤ d → y.cores d ≡ x.cores d
-  pub held : (d at : ℕ) → d < count → mode_of (line_of job.shape at) (phase_context job d x).core.held ≢ None
-      → get_or y.memory at 0 ≡ get_or (phase_context job d x).memory at 0
+  pub held : (d at : ℕ) → d < count → mode_of (line_of job.shape at) (phase_end job d x).core.held ≢ None
+      → get_or y.memory at 0 ≡ get_or (phase_end job d x).memory at 0
   pub unowned : (at : ℕ) → ((d : ℕ) → d < count → mode_in x d (line_of job.shape at) ≢ Some Modified) → get_or y.memory at 0 ≡ get_or x.memory at 0
 
 apart_none : (job : JobValue) (x : Machine) → IsSound job x → IsApartTo job x 0 x
@@ -107,10 +90,10 @@ module _ (job : JobValue) (x : Machine) (count : ℕ) (y : Machine) (s : IsSound
         holds (ap (λ (l : ℕ). mode_of l (x.cores count).held) (sym on) ∙ s.alone d count (line_of job.shape at) owned (omega arith))));
   }
 
-  alike : IsSeenAlike job.shape (phase_context job count x) (phase_context job count y)
+  alike : IsSeenAlike job.shape (phase_end job count x) (phase_end job count y)
   alike = contexts_alike job count x y s a.slot seen
 
-  framed : IsFramed job.shape (context_of y count) (phase_context job count y)
+  framed : IsFramed job.shape (context_of y count) (phase_end job count y)
   framed = instructions_framed job.shape y.slot (text_of job count) job.shape.quantum (context_of y count) s.words a.extent
       (subst (λ (k : CoreState). HoldsEachOnce k.held) (sym same_core) (s.once count))
 
@@ -118,9 +101,9 @@ module _ (job : JobValue) (x : Machine) (count : ℕ) (y : Machine) (s : IsSound
   owned_before line owned = subst (λ (k : CoreState). mode_of line k.held ≡ Some Modified) same_core owned
 
   -- what another core holds after its phase this one doesn't own
-  not_owned : (d line : ℕ) → d ≢ count → mode_of line (phase_context job d x).core.held ≢ None → mode_of line (y.cores count).held ≢ Some Modified
+  not_owned : (d line : ℕ) → d ≢ count → mode_of line (phase_end job d x).core.held ≢ None → mode_of line (y.cores count).held ≢ Some Modified
   not_owned d line other holds owned = let none : mode_of line (x.cores d).held ≡ None = s.alone count d line (owned_before line owned) other in
-      let less : (mode_of line (phase_context job d x).core.held ≡ mode_of line (x.cores d).held) ⊎ (mode_of line (phase_context job d x).core.held ≡ None) = (phase_framed job d x s).less line in
+      let less : (mode_of line (phase_end job d x).core.held ≡ mode_of line (x.cores d).held) ⊎ (mode_of line (phase_end job d x).core.held ≡ None) = (phase_framed job d x s).less line in
       grind arith
 
   apart_next : IsApartTo job x (suc count) (phase job count y)
@@ -129,11 +112,11 @@ module _ (job : JobValue) (x : Machine) (count : ℕ) (y : Machine) (s : IsSound
     slot = a.slot;
     extent = framed.size ∙ a.extent;
     own = λ d below. dite (ℕ_discrete d count)
-        (λ same. subst (λ (n : ℕ). (phase job count y).cores n ≡ (phase_context job n x).core) (sym same) (phase-own job count y ∙ sym alike.core))
-        (λ other. phase-other job count y d other ∙ a.own d (omega arith));
-    rest = λ d past. phase-other job count y d (omega arith) ∙ a.rest d (omega arith);
+        (λ same. subst (λ (n : ℕ). (phase job count y).cores n ≡ (phase_end job n x).core) (sym same) (phase-own job count y ∙ sym alike.core))
+        (λ other. phase-other job count d y other ∙ a.own d (omega arith));
+    rest = λ d past. phase-other job count d y (omega arith) ∙ a.rest d (omega arith);
     held = λ d at below holds. dite (ℕ_discrete d count)
-        (λ same. subst (λ (n : ℕ). mode_of (line_of job.shape at) (phase_context job n x).core.held ≢ None → get_or (phase_context job count y).memory at 0 ≡ get_or (phase_context job n x).memory at 0) (sym same)
+        (λ same. subst (λ (n : ℕ). mode_of (line_of job.shape at) (phase_end job n x).core.held ≢ None → get_or (phase_end job count y).memory at 0 ≡ get_or (phase_end job n x).memory at 0) (sym same)
         (λ here. sym (alike.held (line_of job.shape at) here at refl)) holds)
         (λ other. framed.others at (not_owned d (line_of job.shape at) other holds) ∙ a.held d at (omega arith) holds);
     unowned = λ at nobody. framed.others at (λ owned. nobody count (omega arith) (owned_before (line_of job.shape at) owned)) ∙ a.unowned at (λ d below. nobody d (omega arith));
@@ -161,14 +144,14 @@ phases_are_apart_from job x s = let y : Machine = after_phases job x in let a : 
   own = λ c below. a.own c below ∙ sym (phase-own job c x);
   held = λ c line below holds. line_bytes-same job.shape line y.memory (phase job c x).memory
       (a.extent ∙ sym (ap length (phase-memory job c x) ∙ (phase_framed job c x s).size ∙ s.extent))
-      (λ at on. a.held c at below (λ none. holds (ap (λ (k : CoreState). mode_of line k.held) (phase-own job c x) ∙ subst (λ (l : ℕ). mode_of l (phase_context job c x).core.held ≡ None) on none))
+      (λ at on. a.held c at below (λ none. holds (ap (λ (k : CoreState). mode_of line k.held) (phase-own job c x) ∙ subst (λ (l : ℕ). mode_of l (phase_end job c x).core.held ≡ None) on none))
       ∙ ap (λ (m : List ℕ). get_or m at 0) (sym (phase-memory job c x)));
   touches = touches_apart job x job.shape.cores (phases_touches_apart job x s);
   unowned = λ line nobody. line_bytes-same job.shape line y.memory x.memory (a.extent ∙ sym s.extent)
       (λ at on. a.unowned at (λ d below owned. nobody_below y job.shape.cores line nobody d below
       (ap (λ (k : CoreState). mode_of line k.held) (a.own d below) ∙ (phase_framed job d x s).owned line (subst (λ (l : ℕ). mode_in x d l ≡ Some Modified) on owned))));
   owner = λ line. owner_same y x job.shape.cores line (λ d below. ap (λ (k : CoreState). is_modified (mode_of line k.held)) (a.own d below)
-      ∙ same_modified (mode_of line (phase_context job d x).core.held) (mode_of line (x.cores d).held) ((phase_framed job d x s).less line) ((phase_framed job d x s).owned line));
+      ∙ same_modified (mode_of line (phase_end job d x).core.held) (mode_of line (x.cores d).held) ((phase_framed job d x s).less line) ((phase_framed job d x s).owned line));
 }
 
 -- after the phases of a slot a line that nobody owns is as before

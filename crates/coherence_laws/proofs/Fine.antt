@@ -15,6 +15,7 @@ use Rattle.pmsi_model.specs.Phase.{set_lines, evicted, drop_shared, victim_of, a
 use Rattle.pmsi_model.specs.Coherent.{HoldsEachOnce, ListsEachOnce, posted_request, victim_in, IsPostedBy}
 use Rattle.pmsi_model.proofs.Held.{mode_without, mode_to_front, once_without, once_to_front, fewer_without, room_without, count_to_front, evicted_held, evicted_none}
 use Rattle.pmsi_model.proofs.WriteBacks.{line_append_once, once_append_once}
+use Rattle.pmsi_model.proofs.Cases.{none_by}
 
 -- what holds of a core's want
 pub record IsWantFine (shape : Geometry) (slot : ℕ) (held : List (ℕ × Mode)) (backs : List ℕ) (status : Status) (want : Want) : Type 0 where
@@ -49,14 +50,10 @@ FineCore shape slot posted c k = IsFine shape slot posted c k.held k.want k.writ
 pub at_some : (P : Want → Type 0) (w v : Want) → P w → Some w ≡ Some v → P v
 at_some P w v p is = let e : w ≡ v = grind arith in subst P e p
 
-none_of : (o : Option ℕ) → ((n : ℕ) → o ≢ Some n) → o ≡ None
-none_of None never = refl
-none_of (Some n) never = absurd (never n refl)
-
 -- a posted want has no victim
 pub no_victim : (shape : Geometry) (slot : ℕ) (held : List (ℕ × Mode)) (backs : List ℕ) (status : Status) (want : Want)
     → IsWantFine shape slot held backs status want → is_some want.post ≡ true → want.victim ≡ None
-no_victim shape slot held backs status want w posted = none_of want.victim (λ n is. grind (arith, w.victim_unposted n is))
+no_victim shape slot held backs status want w posted = none_by want.victim (λ n is. grind (arith, w.victim_unposted n is))
 
 -- ---- a later slot
 

@@ -26,16 +26,17 @@ pub record IsWhole (shape : Geometry) (slot : ℕ) (posted : List Request) (core
   pub outside : (c : ℕ) → shape.cores ≤ c → (cores c).held ≡ []
   pub idle : (c : ℕ) → shape.cores ≤ c → (cores c).want ≡ None
 
-unowned : (want : Want) (mode : Option Mode) → (want.kind ≡ Read → mode ≡ None) → (want.kind ≡ Write → mode ≢ Some Modified)
+-- a want's line isn't owned by its core
+pub want_unowned : (want : Want) (mode : Option Mode) → (want.kind ≡ Read → mode ≡ None) → (want.kind ≡ Write → mode ≢ Some Modified)
     → mode ≢ Some Modified
-unowned want mode read write is = grind (arith, read, write)
+want_unowned want mode read write is = grind (arith, read, write)
 
 posted_unowned : (shape : Geometry) (x : Machine) → IsWhole shape x.slot x.posted x.cores → (c : ℕ) (r : Request) (want : Option Want)
     → (x.cores c).want ≡ want → request_of c x.posted ≡ Some r → mode_in x c r.line ≢ Some Modified
 posted_unowned shape x w c r None wants is owned = grind (arith, (w.fine c).posted_wants)
 posted_unowned shape x w c r (Some want) wants is owned = let f = (w.fine c).want_fine want wants in
     let line : r.line ≡ want.line = grind (arith, (w.fine c).posted_wants) in
-    unowned want (mode_in x c want.line) f.read_unheld f.write_unowned (ap (mode_in x c) (sym line) ∙ owned)
+    want_unowned want (mode_in x c want.line) f.read_unheld f.write_unowned (ap (mode_in x c) (sym line) ∙ owned)
 
 pub whole_coherent : (shape : Geometry) (x : Machine) → IsWhole shape x.slot x.posted x.cores → IsCoherent shape x
 whole_coherent shape x w = record {

@@ -10,6 +10,7 @@ use Rattle.pmsi_model.specs.Slots.{plan_of, owner_of_slot}
 use Rattle.pmsi_model.specs.Machine.{Machine, CoreState, mode_of}
 use Rattle.pmsi_model.specs.Phase.{set_lines}
 use Rattle.pmsi_model.specs.Bus.{post_at}
+use Rattle.pmsi_model.proofs.Encodings.{either}
 use Rattle.coherence_laws.proofs.Exports.{backs_fewer, FineCore, IsWhole}
 use Rattle.cache_ctrl.specs.declared.Duty.{Duty}
 use Rattle.cache_ctrl.specs.declared.Duty.TheVariants.{Nothing, Append, DropCopy}
@@ -26,7 +27,6 @@ use Rattle.core_unit.proofs.ActsRows.{row_fits}
 use Rattle.core_unit.proofs.ActsTouches.{touches_before, want_fits, want_retires}
 use Rattle.core_unit.proofs.Snoops.{IsCoreIn}
 use Rattle.core_unit.proofs.States.{asked_lines}
-use Rattle.core_unit.proofs.Steps.{either}
 
 backs_grow : (duty : Duty) (line : ℕ) (lines : List ℕ) → length lines ≤ length (backs_by duty line lines)
 backs_grow Nothing line lines = omega arith

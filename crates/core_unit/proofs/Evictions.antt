@@ -14,7 +14,7 @@ use Rattle.pmsi_model.specs.Job.{JobValue}
 use Rattle.pmsi_model.specs.Machine.{CoreState, Request, has_line, mode_of, request_of}
 use Rattle.pmsi_model.specs.Named.{state_in}
 use Rattle.pmsi_model.specs.Phase.{append_victim, drop_shared, evicted, missed, victim_of}
-use Rattle.pmsi_model.proofs.Held.{evicted_held, mode_without}
+use Rattle.pmsi_model.proofs.Held.{evicted_held, mode_dropped}
 use Rattle.cache_ctrl.specs.declared.Duty.{Duty}
 use Rattle.cache_ctrl.specs.declared.Duty.TheVariants.{DropCopy}
 use Rattle.cache_ctrl.specs.declared.Event.TheVariants.{Choose}
@@ -81,11 +81,6 @@ missed_core slot shape access v cache now is =
 
 -- ---- the states of the lines
 
-else_mode : (gone : Option (ℕ × Mode)) (l : ℕ) (held : List (ℕ × Mode)) → ((h : ℕ × Mode) → gone ≡ Some h → l ≢ h.0) → mode_of l (drop_shared gone held) ≡ mode_of l held
-else_mode None l held away = refl
-else_mode (Some (line, Shared)) l held away = let apart : l ≢ line = away (line, Shared) refl in grind (arith, mode_without l line held)
-else_mode (Some (line, Modified)) l held away = refl
-
 abbrev is_drop : Duty → Bool
 is_drop DropCopy = true
 is_drop duty = false
@@ -147,7 +142,7 @@ module _ (access : Access) (posted : List Request) (c : ℕ) (v : State) (once :
             (knows_same v.states (core_of v) (missed v.cache.shape v.slot access (core_of v)) (state_in posted c (core_of v))
             (state_in posted c (missed v.cache.shape v.slot access (core_of v))) knows.names
             (λ l. misses_else v.cache.shape v.slot access posted c (core_of v) l wants_nothing (away l))
-            (λ l. else_mode (gone_for (line_of v.cache.shape access.address) v) l (held_of v.cache.lines) (away l))));
+            (λ l. mode_dropped (gone_for (line_of v.cache.shape access.address) v) l (held_of v.cache.lines) (away l))));
         once = subst AreTransient (sym states) knows.once;
       }
   knows_by (Some h) gone = let u : State = wanting access (line_of v.cache.shape access.address) v in
@@ -156,7 +151,7 @@ module _ (access : Access) (posted : List Request) (c : ℕ) (v : State) (once :
       knows_changed posted posted c v u h.0 (missed v.cache.shape v.slot access (core_of v)) knows core_after
       (ap (λ (o : Option (ℕ × Mode)). (chosen o v).states) gone ∙ changed_listed Choose h.0 v name (choose_duty h.1 (has_line h.0 v.pending.write_backs)) (entry h gone))
       (λ l other. misses_else v.cache.shape v.slot access posted c (core_of v) l wants_nothing (away l other))
-      (λ l other. else_mode (gone_for (line_of v.cache.shape access.address) v) l (held_of v.cache.lines) (away l other))
+      (λ l other. mode_dropped (gone_for (line_of v.cache.shape access.address) v) l (held_of v.cache.lines) (away l other))
 
   -- a core that misses knows the states of its lines
   pub missed_knows : KnowsStates posted c (wanting access (line_of v.cache.shape access.address) v)

@@ -13,7 +13,9 @@ use Rattle.pmsi_model.specs.Phase.{Context, access_at, access_if_permitted, afte
 use Rattle.pmsi_model.specs.Run.{machine_at}
 use Rattle.pmsi_model.proofs.Numbers.{next_multiple}
 use Rattle.pmsi_model.proofs.Boundaries.{machine_at-slot}
-use Rattle.coherence_laws.proofs.Exports.{phase-own, phase-memory, backs_fewer, FineCore}
+use Rattle.pmsi_model.proofs.Cases.{runs_wantless}
+use Rattle.pmsi_model.proofs.Changes.{phase-own, phase-memory}
+use Rattle.coherence_laws.proofs.Exports.{backs_fewer, FineCore}
 use Rattle.core_unit.specs.declared.state.State.{State}
 use Rattle.core_unit.specs.State.{core_of}
 use Rattle.core_unit.specs.Stands.{with_memory, CanExecute, SameRun, StandsFor, StandsNext, TouchesNext}
@@ -103,20 +105,17 @@ within_run slot slots quantum count below more =
 retired_fits : (slots quantum retired : ℕ) → slots ≤ 1000000 → quantum ≤ 256 → retired < slots * quantum → retired + 1 < 2 ^ 64
 retired_fits slots quantum retired many most few = let p : slots * quantum ≤ 1000000 * 256 = mul-le slots quantum 1000000 256 many most in omega arith
 
-wants_none : (k : CoreState) → can_run k ≡ true → k.want ≡ None
-wants_none k can = grind arith
-
 -- a core that runs has no request
 no_request : (job : JobValue) (slot c count : ℕ) (v : State) → IsInPhase job slot c count v → can_run (core_of v) ≡ true → request_of c (machine_at job slot).posted ≡ None
 no_request job slot c count v p runs = let x : Machine = machine_at job slot in
     let f : FineCore job.shape (slot + 1) x.posted c (core_of v) = subst (FineCore job.shape (slot + 1) x.posted c) p.stands.core (fine_after job slot c count p.stands.carries.within) in
-    f.posted_wants ∙ ap (posted_request c) (wants_none (core_of v) runs)
+    f.posted_wants ∙ ap (posted_request c) (runs_wantless (core_of v) runs)
 
 pub can_execute : (job : JobValue) (slot c count : ℕ) (v : State) → IsInPhase job slot c count v → count < job.shape.quantum → can_run (core_of v) ≡ true → CanExecute v
 can_execute job slot c count v p below runs =
     let s = p.stands.carries in let is = s.within.shape in let x : Machine = machine_at job slot in
     let f : FineCore job.shape (slot + 1) x.posted c (core_of v) = subst (FineCore job.shape (slot + 1) x.posted c) p.stands.core (fine_after job slot c count s.within) in
-    let few : length v.pending.write_backs < job.shape.cores = backs_fewer job.shape (slot + 1) x.posted x.cores c (core_of v) (whole_in job slot s.within) f s.below (wants_none (core_of v) runs) in
+    let few : length v.pending.write_backs < job.shape.cores = backs_fewer job.shape (slot + 1) x.posted x.cores c (core_of v) (whole_in job slot s.within) f s.below (runs_wantless (core_of v) runs) in
     let room = within_run slot job.shape.slots job.shape.quantum count p.more below in let r = p.touches.retired in
     let spare : v.retired < job.shape.slots * job.shape.quantum = omega arith in record {
       job = job;
@@ -127,7 +126,7 @@ can_execute job slot c count v p below runs =
       backs = subst (λ (n : ℕ). length v.pending.write_backs < n) (sym s.cores) few;
       retires = retired_fits job.shape.slots job.shape.quantum v.retired is.slots is.quantum spare;
       touches = λ keeps. let r = p.touches.room keeps in let t = p.touches.few in omega arith;
-      wants_nothing = wants_none (core_of v) runs;
+      wants_nothing = runs_wantless (core_of v) runs;
       posted = x.posted;
       unasked = no_request job slot c count v p runs;
       knows = p.knows;

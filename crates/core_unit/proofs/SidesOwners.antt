@@ -11,7 +11,7 @@ use Rattle.pmsi_model.specs.Machine.{Machine, CoreState, mode_of, mode_in, is_mo
 use Rattle.pmsi_model.specs.Bus.{post, noted_post, fill, filled_line, write_back}
 use Rattle.pmsi_model.proofs.Changes.{filled_core, post-own, post-other, noted-mode, fill-own, fill-other, write_back-own, write_back-other}
 use Rattle.pmsi_model.proofs.Held.{mode_without, mode_to_front, mode_with_mode}
-use Rattle.pmsi_model.proofs.Owners.{nobody_none, nobody_below, nobody_from, owner_alone, owner_same}
+use Rattle.pmsi_model.proofs.Owners.{nobody_none, nobody_below, nobody_from, owner_alone, owner_same, unmodified}
 
 -- ---- a post
 
@@ -37,18 +37,13 @@ post-owner x c kind line count l = owner_same (post x c kind line) x count l (λ
 
 -- ---- a fill
 
-unowned : (mode : Option Mode) → mode ≢ Some Modified → is_modified mode ≡ false
-unowned None other = refl
-unowned (Some Shared) other = refl
-unowned (Some Modified) other = absurd (other refl)
-
 -- a line that is read is owned as before, where its core doesn't own it
 read_owns : (behind : Bool) (line l : ℕ) (held : List (ℕ × Mode)) → mode_of line held ≢ Some Modified
     → is_modified (mode_of l (filled_line Read behind line held)) ≡ is_modified (mode_of l held)
 read_owns true line l held other = refl
 read_owns false line l held other = dite (ℕ_discrete l line)
     (λ same. subst (λ (n : ℕ). is_modified (mode_of n (filled_line Read false line held)) ≡ is_modified (mode_of n held)) (sym same)
-    (let m : mode_of line (filled_line Read false line held) ≡ Some Shared = (let f = mode_to_front line line Shared held in grind arith) in ap is_modified m ∙ sym (unowned (mode_of line held) other)))
+    (let m : mode_of line (filled_line Read false line held) ≡ Some Shared = (let f = mode_to_front line line Shared held in grind arith) in ap is_modified m ∙ sym (unmodified (mode_of line held) other)))
     (λ there. ap is_modified (let f = mode_to_front l line Shared held in grind arith))
 
 -- other lines are held as before

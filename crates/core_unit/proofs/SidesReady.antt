@@ -13,6 +13,7 @@ use Rattle.pmsi_model.specs.Shared.{SharedValue, owner_in, is_ready_for, is_read
 use Rattle.pmsi_model.specs.Parts.{IsSharedOf}
 use Rattle.pmsi_model.proofs.Changes.{post-posted}
 use Rattle.pmsi_model.proofs.Requests.{request_more}
+use Rattle.pmsi_model.proofs.Owners.{none_is}
 use Rattle.coherence_laws.proofs.Exports.{kind_named}
 use Rattle.pend_buffers.specs.declared.Choice.TheVariants.{Idle as IdleChoice, Request as RequestChoice, Back as BackChoice}
 use Rattle.pend_buffers.specs.Pending.{PendingValue, can_ask, choice_of}
@@ -98,10 +99,6 @@ both : (a b : Bool) → (a && b) ≡ true → a ≡ true
 both true b is = refl
 both false b is = absurd (grind arith)
 
-none_of : (o : Option ℕ) → is_none o ≡ true → o ≡ None
-none_of None is = refl
-none_of (Some n) is = absurd (grind arith)
-
 pub can_now : (job : JobValue) (y : Machine) (c : ℕ) → requests_now job y c ≡ true → can_request job y c ≡ true
 can_now job y c now = both (can_request job y c) (not (can_write_back (y.cores c).write_backs) || is_request_turn (y.cores c).turn) now
 
@@ -116,7 +113,7 @@ module _ (job : JobValue) (y : Machine) (c : ℕ) (want : Want) (wants : (y.core
   served_now posted = let can = can_for in grind arith
 
   pub free_now : want.post ≡ None → want.victim ≡ None
-  free_now unposted = none_of want.victim (ap (λ (o : Option ℕ). if is_some o then is_served job y c want.line else is_none want.victim) (sym unposted) ∙ can_for)
+  free_now unposted = none_is want.victim (ap (λ (o : Option ℕ). if is_some o then is_served job y c want.line else is_none want.victim) (sym unposted) ∙ can_for)
 
 -- ---- a request that is posted now
 

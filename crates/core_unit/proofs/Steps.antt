@@ -1,5 +1,5 @@
 -- What a state stands for after each part of an instruction.
-use Rattle.std.proofs.Common.{◌≡◌, ◌≢◌, ◌⊎◌, ℕ, ◌+◌, ◌*◌, ◌/◌, ◌<◌, ◌≤◌, ◌==◌, List, length, get_or, Option, Some, None, Bool, true, false, if◌then◌else◌, refl, sym, ap, ◌∙◌, subst, inl, inr, arith}
+use Rattle.std.proofs.Common.{◌≡◌, ◌≢◌, ℕ, ◌+◌, ◌*◌, ◌/◌, ◌<◌, ◌≤◌, ◌==◌, List, length, get_or, Option, Some, None, Bool, true, false, if◌then◌else◌, refl, sym, ap, ◌∙◌, subst, arith}
 use Rattle.pmsi_model.specs.declared.job.Geometry.{Geometry}
 use Rattle.pmsi_model.specs.declared.Access.{Access}
 use Rattle.pmsi_model.specs.declared.Halt.{Halt}
@@ -21,7 +21,7 @@ use Rattle.pmsi_model.specs.Effect.{Effect, Next, Memory, Stop, effect_of, with_
 use Rattle.pmsi_model.specs.declared.instr.Instr.{Instr}
 use Rattle.pmsi_model.specs.Machine.{CoreState, mode_of}
 use Rattle.pmsi_model.specs.Phase.{Context, met_bytes, memory_after, retired_with, missed, after_effect, accessed, is_permitted, permits, touched_line, can_run, instruction, effect_at, effect_of_word, effect_of_fetch}
-use Rattle.pmsi_model.proofs.Held.{mode_to_front}
+use Rattle.pmsi_model.proofs.Held.{mode_touched}
 use Rattle.cache_array.specs.declared.line.CachedLine.{CachedLine}
 use Rattle.cache_array.specs.Cache.{CacheValue, held_of, words_of, word_place, with_word, touched}
 use Rattle.cache_array.proofs.Exports.{held_of-with_word, held_of-touched, words_of-with_word, words_of-touched}
@@ -42,10 +42,6 @@ use Rattle.core_unit.proofs.Changed.{keeps_known}
 use Rattle.core_unit.proofs.Evictions.{IsChosen, chosen_agree, chosen_frame, is_chosen, makes_room, missed_core, missed_knows}
 use Rattle.core_unit.proofs.Untouched.{Untouched, chosen-run}
 use Rattle.core_unit.proofs.Words.{some_words}
-
-pub either : {A B C : Type 0} → (A → C) → (B → C) → A ⊎ B → C
-either f g (inl a) = f a
-either f g (inr b) = g b
 
 owner_mode : (mode : Option Mode) → permits Write mode ≡ true → mode ≡ Some Modified
 owner_mode None granted = grind arith
@@ -133,14 +129,10 @@ performs job c memory v access s a granted =
     }
 
 -- a line that goes to the front changes no mode and no word
-touched_mode : (l line : ℕ) (mode : Option Mode) (held : List (ℕ × Mode)) → mode_of line held ≡ mode → mode_of l (touched_line mode line held) ≡ mode_of l held
-touched_mode l line None held is = refl
-touched_mode l line (Some mode) held is = grind (arith, mode_to_front l line mode held)
-
 touched_agree : (job : JobValue) (memory : List ℕ) (line : ℕ) (lines : List CachedLine) → IsJob job → CopiesAgree job memory lines → CopiesAgree job memory (touched line lines)
 touched_agree job memory line lines is agree =
     copies_same job.shape.line_words (some_words job.shape is.shape) memory (λ l. mode_of l (held_of lines)) (λ l. mode_of l (held_of (touched line lines))) (λ l. words_of l lines) (λ l. words_of l (touched line lines))
-    (λ l. ap (mode_of l) (held_of-touched line lines) ∙ touched_mode l line (mode_of line (held_of lines)) (held_of lines) refl)
+    (λ l. ap (mode_of l) (held_of-touched line lines) ∙ mode_touched l line (mode_of line (held_of lines)) (held_of lines) refl)
     (λ l. words_of-touched line l lines) agree
 
 -- ---- an access with permission
@@ -256,7 +248,7 @@ same_run v u same modes = record {
 
 hit_mode : (l line : ℕ) (access : Access) (v : State) → mode_of l (held_of (hit_state line access v).cache.lines) ≡ mode_of l (held_of v.cache.lines)
 hit_mode l line access v = let lines : List CachedLine = (performed access v).cache.lines in
-    ap (mode_of l) (held_of-touched line lines) ∙ touched_mode l line (mode_of line (held_of lines)) (held_of lines) refl ∙ ap (mode_of l) (performed_held access v)
+    ap (mode_of l) (held_of-touched line lines) ∙ mode_touched l line (mode_of line (held_of lines)) (held_of lines) refl ∙ ap (mode_of l) (performed_held access v)
 
 pub hit_run : (line : ℕ) (access : Access) (v u : State) (cache : CacheValue) → u ≡ performed access v → cache ≡ record u.cache { lines = touched line u.cache.lines }
     → SameRun v (record u { cache = cache })

@@ -1,5 +1,5 @@
 -- The state of a line tells what is left behind its request when it is served.
-use Rattle.std.proofs.Common.{◌≡◌, ℕ, ◌+◌, List, [], ◌∷◌, Bool, true, false, Some, None, is_some, if◌then◌else◌, refl, sym, ap, ◌∙◌, arith}
+use Rattle.std.proofs.Common.{◌≡◌, ℕ, ◌+◌, List, Bool, true, false, Some, None, is_some, if◌then◌else◌, refl, sym, ap, ◌∙◌, arith}
 use Rattle.pmsi_model.specs.declared.Behind.TheVariants.{Nobody, Reads, Write as WriteBehind}
 use Rattle.pmsi_model.specs.declared.Want.{Want}
 use Rattle.pmsi_model.specs.Coherent.{posted_request}
@@ -9,6 +9,7 @@ use Rattle.pmsi_model.specs.Named.{posted_state, state_in}
 use Rattle.pmsi_model.specs.Parts.{IsSharedOf}
 use Rattle.pmsi_model.specs.Run.{after_phases, machine_at}
 use Rattle.pmsi_model.specs.Shared.{behind_in}
+use Rattle.pmsi_model.proofs.Requests.{write_waits}
 use Rattle.coherence_laws.proofs.Exports.{IsWhole, phases_at}
 use Rattle.cache_ctrl.proofs.Exports.{filled_state, want_request}
 use Rattle.cache_array.specs.Cache.{held_of}
@@ -18,10 +19,6 @@ use Rattle.core_unit.proofs.Carried.{carried, knows_carried}
 use Rattle.core_unit.proofs.Changed.{first_served, settled_in}
 use Rattle.core_unit.proofs.SidesNext as side
 use Rattle.core_unit.proofs.SidesReady.{ready_served}
-
-write_waits : (line : ℕ) (posted : List Request) → has_write line posted ≡ true → has_request line posted ≡ true
-write_waits line [] has = absurd (grind arith)
-write_waits line (r ∷ rs) has = grind (arith, write_waits line rs)
 
 left_by : (write any : Bool) → (write ≡ true → any ≡ true) → is_left (if write then WriteBehind else if any then Reads else Nobody) ≡ any
 left_by true any so = sym (so refl)

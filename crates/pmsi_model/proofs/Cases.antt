@@ -1,6 +1,7 @@
 -- Cases that definitions of the machine leave open.
-use Rattle.std.proofs.Common.{◌≡◌, ◌≢◌, ℕ, Bool, true, false, ◌==◌, if◌then◌else◌, refl, subst, arith}
+use Rattle.std.proofs.Common.{◌≡◌, ◌≢◌, ℕ, Bool, true, false, ◌==◌, if◌then◌else◌, refl, subst, arith, Option, Some, None}
 use Rattle.pmsi_model.specs.Machine.{CoreState}
+use Rattle.pmsi_model.specs.Phase.{can_run}
 
 -- one of two, by a test
 pub by_test : {A : Type 0} (P : A → Type 0) (b : Bool) (t e : A) → (b ≡ true → P t) → (b ≡ false → P e) → P (if b then t else e)
@@ -26,3 +27,14 @@ own_core c k f = at_core (λ d j. d ≡ c → j ≡ k) c k f (λ same. refl) (λ
 
 pub other_core : (c : ℕ) (k : CoreState) (f : ℕ → CoreState) (d : ℕ) → d ≢ c → (if d == c then k else f d) ≡ f d
 other_core c k f = at_core (λ d j. d ≢ c → j ≡ f d) c k f (λ other. absurd (other refl)) (λ d other same. refl)
+
+-- ---- what a core waits for
+
+-- what is never some number is none
+pub none_by : (o : Option ℕ) → ((n : ℕ) → o ≢ Some n) → o ≡ None
+none_by None never = refl
+none_by (Some n) never = absurd (never n refl)
+
+-- a core that runs wants nothing
+pub runs_wantless : (k : CoreState) → can_run k ≡ true → k.want ≡ None
+runs_wantless k can = grind arith

@@ -1,5 +1,5 @@
 -- What each change of the machine leaves in its parts.
-use Rattle.std.proofs.Common.{◌≡◌, ◌≢◌, ℕ, [], ◌∷◌, ◌++◌, drop, Option, Some, None, Bool, ◌==◌, ◌&&◌, if◌then◌else◌, refl, ap, ◌∙◌, arith}
+use Rattle.std.proofs.Common.{◌≡◌, ◌≢◌, ℕ, [], ◌∷◌, ◌++◌, drop, Option, Some, None, Bool, ◌==◌, ◌&&◌, if◌then◌else◌, refl, ap, ◌∙◌, arith, List, true, false}
 use Rattle.std.specs.Option.{option_map}
 use Rattle.pmsi_model.specs.declared.Kind.{Kind}
 use Rattle.pmsi_model.specs.declared.Kind.TheVariants.{Read, Write}
@@ -12,7 +12,7 @@ use Rattle.pmsi_model.specs.Machine.{Machine, CoreState, mode_of, is_shared, is_
 use Rattle.pmsi_model.specs.Phase.{Context, met_bytes, memory_after, retired_with, instructions, context_of, phase}
 use Rattle.pmsi_model.specs.Bus.{post, post_at, noted_post_in, noted_post, fill, fill_for, filled_line, append_demanded, write_back, clear_victim}
 use Rattle.pmsi_model.proofs.Cases.{own_core, other_core}
-use Rattle.pmsi_model.proofs.Held.{mode_without}
+use Rattle.pmsi_model.proofs.Held.{mode_without, mode_to_front}
 
 -- ---- phase
 
@@ -165,3 +165,11 @@ write_back-own x c line kept = own_core c (written_core line kept (x.cores c)) x
 pub write_back-other : (x : Machine) (c line : ℕ) (kept : Bool) (d : ℕ) → d ≢ c → (write_back x c line kept).cores d ≡ x.cores d
 unfolding write_back
 write_back-other x c line kept d other = other_core c (written_core line kept (x.cores c)) x.cores d other
+
+-- the modes after a fill
+pub mode_filled : (kind : Kind) (behind : Bool) (l line : ℕ) (held : List (ℕ × Mode))
+    → mode_of l (filled_line kind behind line held)
+    ≡ (if l == line then (if is_write kind then Some Modified else (if behind then mode_of line held else Some Shared)) else mode_of l held)
+mode_filled Write behind l line held = grind (arith, mode_to_front l line Modified held)
+mode_filled Read true l line held = grind arith
+mode_filled Read false l line held = grind (arith, mode_to_front l line Shared held)

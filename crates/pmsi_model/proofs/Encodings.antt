@@ -35,7 +35,7 @@ apart_head row other rows apart = grind arith
 apart_tail : (row other : Encoding) (rows : List Encoding) → list_all (λ o. conflicts row.fixed o.fixed) (other ∷ rows) ≡ true → list_all (λ o. conflicts row.fixed o.fixed) rows ≡ true
 apart_tail row other rows apart = grind arith
 
-either : {A B C : Type 0} → (A → C) → (B → C) → A ⊎ B → C
+pub either : {A B C : Type 0} → (A → C) → (B → C) → A ⊎ B → C
 either f g (inl a) = f a
 either f g (inr b) = g b
 

@@ -99,3 +99,16 @@ evicted_held shape line hs h once is = grind (arith, last_in_set shape line hs N
 pub evicted_none : (shape : Geometry) (line : ℕ) (hs : List (ℕ × Mode)) → 1 ≤ shape.ways → length (set_lines shape line hs) ≤ shape.ways
     → evicted shape line hs ≡ None → (mode_of line hs ≢ None) ⊎ (length (set_lines shape line hs) < shape.ways)
 evicted_none shape line hs some within none = grind (arith, last_none (set_lines shape line hs))
+
+-- all lines but a shared one that goes are held as before
+pub mode_dropped : (gone : Option (ℕ × Mode)) (l : ℕ) (held : List (ℕ × Mode)) → ((h : ℕ × Mode) → gone ≡ Some h → l ≢ h.0)
+    → mode_of l (drop_shared gone held) ≡ mode_of l held
+mode_dropped None l held away = refl
+mode_dropped (Some (line, Shared)) l held away = let apart : l ≢ line = away (line, Shared) refl in grind (arith, mode_without l line held)
+mode_dropped (Some (line, Modified)) l held away = refl
+
+-- an access with permission leaves the modes
+pub mode_touched : (l line : ℕ) (mode : Option Mode) (held : List (ℕ × Mode)) → mode_of line held ≡ mode
+    → mode_of l (touched_line mode line held) ≡ mode_of l held
+mode_touched l line None held is = refl
+mode_touched l line (Some mode) held is = grind (arith, mode_to_front l line mode held)

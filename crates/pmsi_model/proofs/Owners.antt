@@ -11,7 +11,7 @@ modified None is = absurd (grind arith)
 modified (Some Shared) is = absurd (grind arith)
 modified (Some Modified) is = refl
 
-unmodified : (mode : Option Mode) → mode ≢ Some Modified → is_modified mode ≡ false
+pub unmodified : (mode : Option Mode) → mode ≢ Some Modified → is_modified mode ≡ false
 unmodified None other = refl
 unmodified (Some Shared) other = refl
 unmodified (Some Modified) other = absurd (other refl)
@@ -26,7 +26,7 @@ mode_owns x c line is = ap is_modified is
 pub owner_none : (x : Machine) (count line : ℕ) → owner_of x count line ≡ None → nobody_owns x count line ≡ true
 owner_none x count line none = ap is_none none
 
-none_is : (o : Option ℕ) → is_none o ≡ true → o ≡ None
+pub none_is : (o : Option ℕ) → is_none o ≡ true → o ≡ None
 none_is None is = refl
 none_is (Some n) is = absurd (grind arith)
 

@@ -1,7 +1,8 @@
 -- What the readers of the posted requests say after a request is added or removed.
-use Rattle.std.proofs.Common.{◌≡◌, ◌≢◌, ℕ, ◌+◌, ◌≤◌, length, List, [], ◌∷◌, ◌++◌, Some, None, is_some, true, ◌==◌, ◌&&◌, ◌||◌, if◌then◌else◌, refl, arith, zero, suc, ◌<◌, length-append}
+use Rattle.std.proofs.Common.{◌≡◌, ◌≢◌, ℕ, ◌+◌, ◌≤◌, length, List, [], ◌∷◌, ◌++◌, Some, None, is_some, true, ◌==◌, ◌&&◌, ◌||◌, if◌then◌else◌, refl, arith, zero, suc, ◌<◌, length-append, Option}
 use Rattle.pmsi_model.specs.declared.Kind.TheVariants.{Read, Write}
 use Rattle.pmsi_model.specs.Machine.{Request, is_write, first_of, has_request, has_write, ahead, request_of, removed}
+use Rattle.pmsi_model.specs.Bus.{is_core}
 use Rattle.pmsi_model.specs.Coherent.{RequestsOnce}
 use Rattle.pmsi_model.proofs.Cases.{by_test}
 
@@ -141,3 +142,13 @@ requests_below count rs d once none below free =
     let all : length (rs ++ r ∷ []) ≤ count =
     requests_within count (rs ++ r ∷ []) (requests_once_more rs r once free) (λ c past. grind (arith, request_more c rs r, none c past)) in
     omega (arith, length-append rs (r ∷ []))
+
+-- a request that writes is one
+pub write_waits : (line : ℕ) (rs : List Request) → has_write line rs ≡ true → has_request line rs ≡ true
+write_waits line [] is = is
+write_waits line (r ∷ rs) is = grind (arith, write_waits line rs)
+
+-- the test whether it is this core
+pub core_is : (c : ℕ) (o : Option ℕ) → is_core c o ≡ true → o ≡ Some c
+core_is c None is = absurd (grind arith)
+core_is c (Some d) is = grind arith

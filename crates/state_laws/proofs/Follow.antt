@@ -1,9 +1,8 @@
 -- The states from the phases of a slot to the next boundary.
-use Rattle.std.proofs.Common.{◌≡◌, ◌≢◌, ℕ, ◌+◌, ◌<◌, List, [], ◌∷◌, Option, Some, None, is_some, Bool, true, false, ◌==◌, if◌then◌else◌, refl, sym, ap, ◌∙◌, subst, add-one, arith}
+use Rattle.std.proofs.Common.{◌≡◌, ◌≢◌, ℕ, ◌+◌, ◌<◌, List, [], ◌∷◌, Option, Some, None, is_some, Bool, true, false, ◌==◌, if◌then◌else◌, refl, sym, ap, ◌∙◌, subst, arith}
 use mathlib.Core.Logic.{dite}
 use native.Mathlib.Decide.{ℕ_discrete}
 use Rattle.std.specs.Option.{option_map}
-use Rattle.std.proofs.lemmas.Nat.{mod_below}
 use Rattle.pmsi_model.specs.declared.Action.{Action}
 use Rattle.pmsi_model.specs.declared.Action.TheVariants.{Idle, Post, Fill, PostFill, Back}
 use Rattle.pmsi_model.specs.declared.State.{State}
@@ -11,15 +10,17 @@ use Rattle.pmsi_model.specs.declared.Want.{Want}
 use Rattle.pmsi_model.specs.Job.{JobValue}
 use Rattle.pmsi_model.specs.Slots.{plan_of, owner_of_slot}
 use Rattle.pmsi_model.specs.Machine.{Machine, CoreState, mode_in, first_of, nobody_owns}
-use Rattle.pmsi_model.specs.Bus.{is_core, is_served, can_request_for, requests_now, name_of, kind_of_name, post, post_at, fill, write_back, keeps_line, post_action, request_action, back_action, action_of, after_action}
+use Rattle.pmsi_model.specs.Bus.{is_served, can_request_for, requests_now, name_of, kind_of_name, post, post_at, fill, write_back, keeps_line, post_action, request_action, back_action, action_of, after_action}
 use Rattle.pmsi_model.specs.Run.{after_phases, slot_done, machine_at, record_at}
-use Rattle.pmsi_model.proofs.Boundaries.{machine_at-slot, phases-slot}
+use Rattle.pmsi_model.proofs.Boundaries.{machine_at-slot, phases-slot, next_machine}
 use Rattle.pmsi_model.proofs.Changes.{post-own}
 use Rattle.pmsi_model.proofs.Cases.{by_test}
 use Rattle.coherence_laws.proofs.Exports.{IsWhole, post_whole, nobody_at_all, kind_named, unposted_now, phases_at}
 use Rattle.cache_ctrl.specs.declared.Event.{Event}
 use Rattle.cache_ctrl.specs.declared.Event.TheVariants.{OwnFill}
 use Rattle.pmsi_model.specs.Named.{state_of}
+use Rattle.pmsi_model.proofs.Distances.{slot_owner_below}
+use Rattle.pmsi_model.proofs.Requests.{core_is}
 use Rattle.cache_ctrl.specs.Duties.{own_event}
 use Rattle.state_laws.specs.Laws.{next_all, own_events, seen_events, events_of, ActionsFollow}
 use Rattle.state_laws.proofs.Steps.{post_seen, post_own, fill_seen, fill_own, back_seen, back_own, at_line}
@@ -44,12 +45,8 @@ by_core by c action line x y own seen = dite (ℕ_discrete c by)
     (λ same. subst (λ (d : ℕ). Moves x y d line (events_of by d action line)) (sym same) (rw (own_case by action line) own))
     (λ other. rw (seen_case by c action line other) (seen other))
 
-first_is : (c : ℕ) (o : Option ℕ) → is_core c o ≡ true → o ≡ Some c
-first_is c None is = absurd (grind arith)
-first_is c (Some d) is = grind arith
-
 served_first : (job : JobValue) (x : Machine) (c line : ℕ) → is_served job x c line ≡ true → first_of line x.posted ≡ Some c
-served_first job x c line served = first_is c (first_of line x.posted) (grind arith)
+served_first job x c line served = core_is c (first_of line x.posted) (grind arith)
 
 served_nobody : (job : JobValue) (x : Machine) (c line : ℕ) → is_served job x c line ≡ true → nobody_owns x job.shape.cores line ≡ true
 served_nobody job x c line served = grind arith
@@ -158,16 +155,12 @@ slot_follows job x c line w same below =
     let y : Machine = after_phases job x in
     action_follows job y (owner_of_slot (plan_of job) x.slot) c line (subst (λ (s : ℕ). IsWhole job.shape (s + 1) y.posted y.cores) (sym same) w) below
 
-machine_next : (job : JobValue) (slot : ℕ) → machine_at job (slot + 1) ≡ slot_done job (machine_at job slot)
-unfolding machine_at
-machine_next job slot = rw add-one refl
-
 pub actions_follow : ActionsFollow
 actions_follow job is slot c line below =
     let x : Machine = machine_at job slot in
     let at : x.slot ≡ slot = machine_at-slot job slot in
     let w : IsWhole job.shape (x.slot + 1) (after_phases job x).posted (after_phases job x).cores =
     subst (λ (s : ℕ). IsWhole job.shape (s + 1) (after_phases job x).posted (after_phases job x).cores) (sym at) (phases_at job is slot job.shape.cores (omega arith)) in
-    let follows = slot_follows job x c line w (phases-slot job job.shape.cores x) (mod_below x.slot job.shape.cores is.shape.some_cores) in
-    rw (machine_next job slot)
+    let follows = slot_follows job x c line w (phases-slot job job.shape.cores x) (slot_owner_below (plan_of job) x.slot is.shape.some_cores) in
+    rw (next_machine job slot)
     (subst (λ (s : ℕ). next_all (Some (state_of (after_phases job x) c line)) (events_of (owner_of_slot (plan_of job) s) c (record_at job slot) line) ≡ Some (state_of (slot_done job x) c line)) at follows)

@@ -1,5 +1,5 @@
 -- The meanings of the states tell every line's state.
-use Rattle.std.proofs.Common.{◌≡◌, ◌≢◌, ℕ, ◌+◌, List, [], ◌∷◌, Option, Some, None, Bool, true, false, refl, sym, ◌∙◌, subst, arith}
+use Rattle.std.proofs.Common.{◌≡◌, ◌≢◌, ℕ, ◌+◌, Option, Some, None, Bool, true, false, refl, sym, ◌∙◌, subst, arith}
 use Rattle.pmsi_model.specs.declared.Kind.{Kind}
 use Rattle.pmsi_model.specs.declared.Kind.TheVariants.{Read, Write}
 use Rattle.pmsi_model.specs.declared.Mode.{Mode}
@@ -10,7 +10,7 @@ use Rattle.pmsi_model.specs.Machine.{Machine, Request, mode_in, has_line, has_re
 use Rattle.pmsi_model.specs.Bus.{keeps_line}
 use Rattle.pmsi_model.specs.Named.{named, asked_of, behind_of, state_in, state_of}
 use Rattle.pmsi_model.specs.Run.{after_phases, machine_at}
-use Rattle.pmsi_model.proofs.Requests.{request_core}
+use Rattle.pmsi_model.proofs.Requests.{request_core, write_waits}
 use Rattle.coherence_laws.proofs.Exports.{stays_coherent, phases_coherent}
 use Rattle.cache_ctrl.proofs.Exports.{IsSettled, settled_of, behind_unheld}
 use Rattle.state_laws.specs.Cases.{HasPosted, HasNotPosted, IsCase, IsNamed, StatesAreCases}
@@ -132,16 +132,12 @@ unowned_by : (x : Machine) (c line : ℕ) (a : Option Kind) → OwnsNoneAsked x 
 unowned_by x c line None owns is some = absurd (some refl)
 unowned_by x c line (Some kind) owns is some = owns (record { core = c; line = line; kind = kind }) (asked_posted x c line kind is)
 
-write_request : (line : ℕ) (rs : List Request) → has_write line rs ≡ true → has_request line rs ≡ true
-write_request line [] is = is
-write_request line (r ∷ rs) is = grind (arith, write_request line rs)
-
 only_at : (x : Machine) (c line : ℕ) → OwnsNoneAsked x c → (t : State) → IsCase t x c line → t ≡ state_of x c line
 unfolding state_in
 only_at x c line owns t is =
     only_by t (asked_at x c line) (mode_in x c line) (has_line line (x.cores c).write_backs) (keeps_line x c line)
     (has_request line (behind_of c x.posted)) (has_write line (behind_of c x.posted))
-    (unowned_by x c line (asked_at x c line) owns refl) (write_request line (behind_of c x.posted)) (from_case t x c line is)
+    (unowned_by x c line (asked_at x c line) owns refl) (write_waits line (behind_of c x.posted)) (from_case t x c line is)
 
 case_at : (x : Machine) (c line : ℕ) → OwnsNoneAsked x c → IsCase (state_of x c line) x c line
 unfolding state_in

@@ -1,18 +1,16 @@
 -- Each action of the machine moves the states by the table.
-use Rattle.std.proofs.Common.{◌≡◌, ◌≢◌, ℕ, List, [], ◌∷◌, ◌++◌, Option, Some, None, is_some, Bool, true, ◌==◌, if◌then◌else◌, refl, sym, ap, ◌∙◌, arith}
+use Rattle.std.proofs.Common.{◌≡◌, ◌≢◌, ℕ, List, [], ◌∷◌, ◌++◌, Some, None, is_some, Bool, true, ◌==◌, if◌then◌else◌, refl, sym, ap, ◌∙◌, arith}
 use mathlib.Core.Logic.{dite}
 use native.Mathlib.Decide.{ℕ_discrete}
 use Rattle.pmsi_model.specs.declared.job.Geometry.{Geometry}
 use Rattle.pmsi_model.specs.declared.Kind.{Kind}
-use Rattle.pmsi_model.specs.declared.Kind.TheVariants.{Read, Write}
-use Rattle.pmsi_model.specs.declared.Mode.{Mode}
 use Rattle.pmsi_model.specs.declared.Mode.TheVariants.{Modified}
 use Rattle.pmsi_model.specs.declared.State.{State}
 use Rattle.pmsi_model.specs.declared.Want.{Want}
 use Rattle.pmsi_model.specs.Machine.{Machine, CoreState, Request, mode_of, mode_in, first_of, request_of, removed}
 use Rattle.pmsi_model.specs.Bus.{post, noted_post, fill, write_back}
 use Rattle.pmsi_model.proofs.Changes.{posted_core, filled_core, written_core, post-own, post-other, post-posted, fill-own, fill-other, fill-posted, write_back-own, write_back-other, write_back-posted}
-use Rattle.coherence_laws.proofs.Exports.{IsWhole, whole_coherent}
+use Rattle.coherence_laws.proofs.Exports.{IsWhole, whole_coherent, want_unowned}
 use Rattle.cache_ctrl.specs.declared.Event.{Event}
 use Rattle.cache_ctrl.specs.declared.Event.TheVariants.{OwnFill, OwnBack}
 use Rattle.pmsi_model.specs.Named.{state_in, state_of, stays_shared}
@@ -34,9 +32,6 @@ pub by_line : (line l : ℕ) (events : List Event) (s t : State) → (line ≡ l
 by_line line l events s t here away = dite (ℕ_discrete line l)
     (λ same. rw (let e : at_line line l events ≡ events = grind arith in e) (here same))
     (λ apart. rw (let e : at_line line l events ≡ [] = grind arith in e) (ap (λ (u : State). Some u) (sym (away apart))))
-
-unowned_by : (want : Want) (mode : Option Mode) → (want.kind ≡ Read → mode ≡ None) → (want.kind ≡ Write → mode ≢ Some Modified) → mode ≢ Some Modified
-unowned_by want mode read write is = grind (arith, read, write)
 
 -- ---- post
 
@@ -61,7 +56,7 @@ post_own shape slot x c want line w is unposted =
     let e : state_of (post x c want.kind want.line) c line ≡ state_in (x.posted ++ r ∷ []) c (posted_core x.slot k) line =
     ap (λ p. state_in p c ((post x c want.kind want.line).cores c) line) (post-posted x c want.kind want.line) ∙ ap (λ k. state_in (x.posted ++ r ∷ []) c k line) (post-own x c want.kind want.line) in
     rw e (by_line line want.line (own_event want.kind ∷ []) (state_of x c line) (state_in (x.posted ++ r ∷ []) c (posted_core x.slot k) line)
-    (λ same. rw same (ap after_entry (own_posts x.posted c x.slot k want none is v.read_unheld (unowned_by want (mode_of want.line k.held) v.read_unheld v.write_unowned))))
+    (λ same. rw same (ap after_entry (own_posts x.posted c x.slot k want none is v.read_unheld (want_unowned want (mode_of want.line k.held) v.read_unheld v.write_unowned))))
     (λ apart. own_posts_else x.posted c x.slot k want line none apart))
 
 -- ---- fill

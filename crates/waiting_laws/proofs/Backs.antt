@@ -18,13 +18,13 @@ use Rattle.pmsi_model.specs.Coherent.{posted_request}
 use Rattle.pmsi_model.proofs.Cases.{by_test, by_bool}
 use Rattle.pmsi_model.proofs.Changes.{written_core, write_back-own, write_back-other, write_back-posted}
 use Rattle.pmsi_model.proofs.Held.{mode_without, mode_with_mode}
-use Rattle.pmsi_model.proofs.Requests.{first_request}
+use Rattle.pmsi_model.proofs.Requests.{first_request, core_is}
 use Rattle.coherence_laws.proofs.Exports.{IsWhole}
 use Rattle.pmsi_model.proofs.Distances.{distance_some}
 use Rattle.waiting_laws.proofs.Steps.{BackFalls, RequestFalls, back_far, back_place, request_far, request_turn, request_slots_most, request_for, request_here, first_is, poster_below}
 use Rattle.waiting_laws.proofs.Stays.{posted_on, unposted_on, left_posted, left_unposted, owner_here, nobody_here}
 use Rattle.waiting_laws.proofs.Asks.{at_next}
-use Rattle.waiting_laws.proofs.Requests.{FallsTo, falls_to, served_first}
+use Rattle.waiting_laws.proofs.Requests.{FallsTo, falls_to}
 
 -- ---- who can request
 
@@ -227,7 +227,7 @@ victim_falls job x w line kept want later below unposted victim still free =
 
 not_cleared : (line : ℕ) (want : Want) → want.victim ≢ Some line → clear_victim line want ≡ want
 not_cleared line want other = by_test (λ (v : Want). v ≡ want) (is_core line want.victim) (record want { victim = None }) want
-    (λ is. absurd (other (served_first line want.victim is)))
+    (λ is. absurd (other (core_is line want.victim is)))
     (λ stays. refl)
 
 cleared : (line : ℕ) (want : Want) → want.victim ≡ Some line → clear_victim line want ≡ record want { victim = None }
@@ -261,7 +261,7 @@ back_falls job x w line lines kept c want whole after owner w_below later backs 
     let then_wants : (y.cores w).want ≡ Some (clear_victim line want)
     = ap (λ (k : CoreState). k.want) (write_back-own x w line kept) ∙ ap (option_map (clear_victim line)) own_wants in
     subst (λ (n : ℕ). FallsTo job x n want y) (sym same) (by_bool (is_core line want.victim)
-    (λ is. let victim : want.victim ≡ Some line = served_first line want.victim is in
+    (λ is. let victim : want.victim ≡ Some line = core_is line want.victim is in
     let none : want.post ≡ None = ((whole.fine w).want_fine want own_wants).victim_unposted line victim in
     falls_to job x y w want (record want { victim = None }) (then_wants ∙ ap (λ (v : Want). Some v) (cleared line want victim))
     (refl, victim_falls job x w line kept want (record want { victim = None }) w_below (ap is_some none) victim (ap is_some none) refl))

@@ -14,7 +14,7 @@ use Rattle.pmsi_model.specs.Waiting.{place_of}
 use Rattle.pmsi_model.proofs.Held.{mode_without, mode_to_front}
 use Rattle.pmsi_model.proofs.WriteBacks.{line_append_once, place_append_once}
 use Rattle.pmsi_model.proofs.Boundaries.{phases-slot}
-use Rattle.pmsi_model.proofs.Cases.{by_test, at_core}
+use Rattle.pmsi_model.proofs.Cases.{by_test, at_core, runs_wantless}
 
 pub record IsQuiet (slot : ℕ) (k j : CoreState) : Type 0 where
   -- a core that wants something stays as it is
@@ -50,9 +50,6 @@ quiet_then slot k j i first second = record {
   backs = λ line has. let b = first.backs line has in let c = second.backs line b.0 in (c.0, c.1 ∙ b.1);
   owned = λ line is. first.owned line (second.owned line is);
 }
-
-no_want : (k : CoreState) → can_run k ≡ true → k.want ≡ None
-no_want k can = grind arith
 
 -- a core that runs on
 quiet_running : (slot : ℕ) (k j : CoreState) → k.want ≡ None → j.want ≡ k.want → j.turn ≡ k.turn → j.write_backs ≡ k.write_backs
@@ -103,7 +100,7 @@ quiet_instruction : (shape : Geometry) (slot : ℕ) (text : List ℕ) (x : Conte
 unfolding instruction
 quiet_instruction shape slot text x =
     by_test (λ (y : Context). IsQuiet slot x.core y.core) (can_run x.core) (after_effect shape slot (effect_at shape text x.core) x) x
-    (λ can. quiet_effect shape slot (effect_at shape text x.core) x (no_want x.core can))
+    (λ can. quiet_effect shape slot (effect_at shape text x.core) x (runs_wantless x.core can))
     (λ stays. quiet_same slot x.core)
 
 quiet_instructions : (shape : Geometry) (slot : ℕ) (text : List ℕ) (count : ℕ) (x : Context)

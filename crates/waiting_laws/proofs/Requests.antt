@@ -1,5 +1,5 @@
 -- What is left for a want falls where the owner of the slot requests.
-use Rattle.std.proofs.Common.{◌≡◌, ◌≢◌, ℕ, ◌+◌, ◌*◌, ◌<◌, ◌≤◌, Option, Some, None, is_some, true, refl, sym, ap, ◌∙◌, subst, arith}
+use Rattle.std.proofs.Common.{◌≡◌, ◌≢◌, ℕ, ◌+◌, ◌*◌, ◌<◌, ◌≤◌, Some, None, is_some, true, refl, sym, ap, ◌∙◌, subst, arith}
 use mathlib.Core.Logic.{dite}
 use native.Mathlib.Decide.{ℕ_discrete}
 use Rattle.std.specs.Option.{option_map, unwrap_or}
@@ -8,12 +8,12 @@ use Rattle.pmsi_model.specs.Job.{JobValue}
 use Rattle.pmsi_model.specs.Slots.{SlotPlan, plan_of}
 use Rattle.pmsi_model.specs.Run.{slot_owner}
 use Rattle.pmsi_model.specs.Machine.{Machine, CoreState, first_of, ahead, request_of, removed, owner_of, nobody_owns}
-use Rattle.pmsi_model.specs.Bus.{post, post_at, fill, is_core, is_served, requests_now}
+use Rattle.pmsi_model.specs.Bus.{post, post_at, fill, is_served, requests_now}
 use Rattle.pmsi_model.specs.Waiting.{request_slots, queue_slots, posted_left, unposted_left, left_for}
 use Rattle.pmsi_model.proofs.Cases.{by_bool}
 use Rattle.pmsi_model.proofs.Changes.{post-own, post-other, noted-want, fill-own, fill-other, fill-posted}
 use Rattle.pmsi_model.proofs.Owners.{nobody_none}
-use Rattle.pmsi_model.proofs.Requests.{ahead_less}
+use Rattle.pmsi_model.proofs.Requests.{ahead_less, core_is}
 use Rattle.coherence_laws.proofs.Exports.{at_some, IsWhole, post_whole, fill_whole, nobody_at_all}
 use Rattle.pmsi_model.proofs.Distances.{distance_some}
 use Rattle.waiting_laws.proofs.Steps.{request_for, request_here, first_is, posted_most, posted_all}
@@ -79,10 +79,6 @@ post_falls job x w v c want whole owner w_below now is unposted free below wants
 
 -- ---- fill
 
-pub served_first : (w : ℕ) (o : Option ℕ) → is_core w o ≡ true → o ≡ Some w
-served_first w None is = absurd (grind arith)
-served_first w (Some d) is = grind arith
-
 -- the first of the queue is served: one fewer is ahead
 served_falls : (job : JobValue) (x y : Machine) (w c : ℕ) (want : Want) → IsWhole job.shape (x.slot + 1) x.posted x.cores
     → IsWhole job.shape (x.slot + 1) y.posted y.cores → y.posted ≡ removed w x.posted → (y.cores c).want ≡ Some want
@@ -109,7 +105,7 @@ pub fill_falls : (job : JobValue) (x : Machine) (w : ℕ) (v : Want) (c : ℕ) (
 fill_falls job x w v c want whole owner w_below now is posted served below wants =
     let y : Machine = fill x w in
     let nobody : nobody_owns x job.shape.cores v.line ≡ true = grind arith in
-    let first : first_of v.line x.posted ≡ Some w = served_first w (first_of v.line x.posted) (grind arith) in
+    let first : first_of v.line x.posted ≡ Some w = core_is w (first_of v.line x.posted) (grind arith) in
     let after : IsWhole job.shape (x.slot + 1) y.posted y.cores
     = fill_whole job.shape (x.slot + 1) x w v whole w_below is posted (nobody_at_all job.shape (x.slot + 1) x v.line whole nobody) in
     let r : IsRequest x y w (Some v.line) = fill_asks job (x.slot + 1) x w v whole is (request_here job.shape (x.slot + 1) x w v whole is posted) in
@@ -138,7 +134,7 @@ post_fill_falls job x w v c want whole owner w_below now is unposted free served
     let u : Want = post_at x.slot v in
     let u_is : (z.cores w).want ≡ Some u = ap (λ (k : CoreState). k.want) (post-own x w v.kind v.line) ∙ ap (option_map (post_at x.slot)) is in
     let nobody : nobody_owns z job.shape.cores v.line ≡ true = grind arith in
-    let first : first_of v.line z.posted ≡ Some w = served_first w (first_of v.line z.posted) (grind arith) in
+    let first : first_of v.line z.posted ≡ Some w = core_is w (first_of v.line z.posted) (grind arith) in
     let between : IsWhole job.shape (x.slot + 1) z.posted z.cores = post_whole job.shape x w v whole w_below is unposted free in
     let after : IsWhole job.shape (x.slot + 1) y.posted y.cores
     = fill_whole job.shape (x.slot + 1) z w u between w_below u_is refl (nobody_at_all job.shape (x.slot + 1) z v.line between nobody) in
