@@ -1,8 +1,6 @@
 -- What the cores of a machine keep.
-use Rattle.std.proofs.Common.{◌≡◌, ℕ, ◌<◌, List, [], ◌∷◌, ◌++◌, length, get_or, set, take, drop, Bool, sym, ap, ◌∙◌, subst, arith, length-append, length-set}
+use Rattle.std.proofs.Common.{◌≡◌, ℕ, ◌<◌, List, ◌++◌, length, get_or, set, take, drop, Bool, ap, ◌∙◌, subst, length-set}
 use Rattle.std.proofs.Math.Seq.{take-append_seam}
-use mathlib.Core.Logic.{dite}
-use native.Mathlib.Decide.{ℕ_discrete}
 use Rattle.core_unit.specs.declared.state.State.{State}
 use Rattle.sim_serial.specs.Cores.{CoresKeep}
 use Rattle.sim_serial.proofs.Slots.{after_set}

@@ -1,7 +1,6 @@
 -- A core has at most one row a slot.
 use Rattle.std.proofs.Common.{◌<◌, sym, subst}
 use Rattle.pmsi_model.specs.declared.job.Geometry.{Geometry}
-use Rattle.core_unit.specs.declared.state.State.{State}
 use Rattle.core_unit.specs.Parts.{IsPart}
 use Rattle.sim_serial.specs.Sims.{SimValue, shape_of}
 use Rattle.sim_serial.proofs.Sims.{few_rows}
