@@ -1,6 +1,5 @@
 -- The cores and the bus go through a slot.
 use Rattle.std.proofs.Common.{◌≡◌, ◌≢◌, ℕ, ◌+◌, ◌<◌, ◌≤◌, List, length, get_or, set, sym, ap, ◌∙◌, subst, arith, get_or-set_same, get_or-set_other, length-set}
-use Rattle.std.proofs.lemmas.Nat.{mod_below}
 use mathlib.Core.Logic.{dite}
 use native.Mathlib.Decide.{ℕ_discrete}
 use Rattle.pmsi_model.specs.declared.job.Geometry.{Geometry}
@@ -10,6 +9,7 @@ use Rattle.pmsi_model.specs.Slots.{SlotPlan, plan_of, owner_of_slot}
 use Rattle.pmsi_model.specs.Run.{record_at}
 use Rattle.pmsi_model.specs.Shared.{BusSide}
 use Rattle.pmsi_model.specs.Parts.{IsBusPart}
+use Rattle.pmsi_model.proofs.Distances.{slot_owner_below}
 use Rattle.core_unit.specs.declared.state.State.{State}
 use Rattle.core_unit.specs.Acts.{IsActed}
 use Rattle.core_unit.specs.Parts.{IsPart, IsPartAfter, CanAct, CanSnoop}
@@ -62,7 +62,7 @@ slot_more job slot count k more part = let now = part.in_slot.now in subst (λ (
 -- ---- the owner's action
 
 pub owner_below : (job : JobValue) (slot owner : ℕ) → IsJob job → owner ≡ owner_of_slot (plan_of job) slot → owner < job.shape.cores
-owner_below job slot owner is by = subst (λ n. n < job.shape.cores) (sym by) (mod_below slot job.shape.cores is.shape.some_cores)
+owner_below job slot owner is by = subst (λ n. n < job.shape.cores) (sym by) (slot_owner_below (plan_of job) slot is.shape.some_cores)
 
 pub can_act : (job : JobValue) (slot owner : ℕ) (cores : List State) (bus : BusSide) (other k : State) → ArePhased job slot cores → IsBusPart job slot bus → owner ≡ owner_of_slot (plan_of job) slot → k ≡ get_or cores owner other → CanAct k bus
 can_act job slot owner cores bus other k p side by is =
