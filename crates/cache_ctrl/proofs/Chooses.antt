@@ -93,7 +93,8 @@ misses_else shape slot access posted c k l idle away =
     (stays_shared posted k l) (stays_shared posted j l)
     (has_request l (behind_of c posted)) (has_request l (behind_of c posted))
     (has_write l (behind_of c posted)) (has_write l (behind_of c posted))
-    refl (mode_dropped gone l k.held away) (gone_back gone l k.write_backs away) (grind (arith, gone_victim shape slot access gone l k away, before)) (λ some. refl) (λ some. refl)
+    refl (mode_dropped gone l k.held away) (gone_back gone l k.write_backs away)
+    (grind (arith, gone_victim shape slot access gone l k away, before)) (λ some. refl) (λ some. refl)
 
 -- an access with permission leaves the states
 pub accesses_same : (shape : Geometry) (access : Access) (x : Context) (posted : List Request) (c l : ℕ) → state_in posted c (accessed shape access x).core l ≡ state_in posted c x.core l

@@ -113,7 +113,8 @@ module _ (job : JobValue) (y : Machine) (c : ℕ) (want : Want) (wants : (y.core
   served_now posted = let can = can_for in grind arith
 
   pub free_now : want.post ≡ None → want.victim ≡ None
-  free_now unposted = none_is want.victim (ap (λ (o : Option ℕ). if is_some o then is_served job y c want.line else is_none want.victim) (sym unposted) ∙ can_for)
+  free_now unposted = none_is want.victim
+      (ap (λ (o : Option ℕ). if is_some o then is_served job y c want.line else is_none want.victim) (sym unposted) ∙ can_for)
 
 -- ---- a request that is posted now
 

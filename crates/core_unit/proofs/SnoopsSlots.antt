@@ -83,7 +83,8 @@ module _ (job : JobValue) (slot d : ℕ) (v : State) (p : IsPartAfter job slot d
   before = record { stands = carried job slot d v p; knows = knows_carried job slot d v p }
 
   all : IsActionSnooped job y c d v (record_at job slot)
-  all = action_snooped job y c d v whole (slot_owner_below (plan_of job) x.slot is.shape.some_cores) other (want_asked_between job is slot job.shape.cores c) before
+  all = action_snooped job y c d v whole (slot_owner_below (plan_of job) x.slot is.shape.some_cores) other
+      (want_asked_between job is slot job.shape.cores c) before
 
   -- there is room for what the core learns
   pub snoop_room : CanSnoopAction (record_at job slot) v

@@ -248,7 +248,8 @@ same_run v u same modes = record {
 
 hit_mode : (l line : ℕ) (access : Access) (v : State) → mode_of l (held_of (hit_state line access v).cache.lines) ≡ mode_of l (held_of v.cache.lines)
 hit_mode l line access v = let lines : List CachedLine = (performed access v).cache.lines in
-    ap (mode_of l) (held_of-touched line lines) ∙ mode_touched l line (mode_of line (held_of lines)) (held_of lines) refl ∙ ap (mode_of l) (performed_held access v)
+    ap (mode_of l) (held_of-touched line lines) ∙ mode_touched l line (mode_of line (held_of lines)) (held_of lines) refl
+    ∙ ap (mode_of l) (performed_held access v)
 
 pub hit_run : (line : ℕ) (access : Access) (v u : State) (cache : CacheValue) → u ≡ performed access v → cache ≡ record u.cache { lines = touched line u.cache.lines }
     → SameRun v (record u { cache = cache })
