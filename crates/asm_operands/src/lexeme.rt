@@ -1,6 +1,6 @@
 //! Tokens with their texts.
 
-ghost use Rattle.std.specs.Prelude.{◌≡◌, ◌≢◌, ◌+◌, ◌≤◌, length, map, None, Some, option_map, IfOk, IfErr};
+ghost use Rattle.std.specs.Prelude.{◌≡◌, ◌≢◌, ◌+◌, ◌≤◌, length, None, Some, option_map, IfOk, IfErr};
 ghost use Rattle.std.specs.List.{position};
 ghost use Rattle.pmsi_model.specs.declared.limits.TheConstants.{MAX_FILE_BYTES};
 ghost use Rattle.asm_operands.specs.declared.fault.TokenFault.TheVariants.{Character};
