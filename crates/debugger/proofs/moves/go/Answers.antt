@@ -1,9 +1,9 @@
 use Rattle.std.proofs.Common.{◌≡◌, ◌∙◌, ◌+◌, ◌≤◌, ℕ, ap, sym, subst, arith, true, false}
 use Rattle.pmsi_model.specs.declared.job.Geometry.{Geometry}
 use Rattle.pmsi_model.specs.Run.{machine_at}
-use Rattle.sim_serial.specs.Sims.{IsSimOf, shape_of}
+use Rattle.sim_serial.specs.Sims.{IsSimOf}
 use Rattle.script_text.specs.Output.{go_end, holds_any}
-use Rattle.debugger.proofs.Goes.{go_stops, go_passes, go_ends, go_from}
+use Rattle.debugger.proofs.Goes.{go_stops, go_passes, go_from}
 use Rattle.debugger.proofs.moves.go.Goals as goal
 
 pub loop-slot-preserved : goal.loop-slot-preserved

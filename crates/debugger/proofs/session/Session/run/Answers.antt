@@ -1,4 +1,4 @@
-use Rattle.std.proofs.Common.{◌≡◌, ◌∙◌, arith}
+use Rattle.std.proofs.Common.{◌∙◌, arith}
 use Rattle.debugger.proofs.Outputs.{goes_on, ends}
 use Rattle.debugger.proofs.session.Session.run.Goals as goal
 

@@ -1,4 +1,4 @@
-use Rattle.std.proofs.Common.{◌≡◌, ℕ, drop}
+use Rattle.std.proofs.Common.{◌≡◌, drop}
 use Rattle.pmsi_model.specs.Job.{JobValue}
 use Rattle.sim_serial.specs.Sims.{shape_of}
 use Rattle.script_text.specs.Output.{Place}
