@@ -3,6 +3,7 @@ use Rattle.std.proofs.Common.{◌≡◌, ◌≢◌, ℕ, ◌<◌, ◌≤◌, Lis
 use Rattle.pmsi_model.specs.declared.job.Geometry.{Geometry}
 use Rattle.pmsi_model.specs.declared.Mode.{Mode}
 use Rattle.pmsi_model.specs.declared.State.{State as LineName}
+use Rattle.pmsi_model.specs.declared.limits.TheConstants.{MAX_CORES}
 use Rattle.pmsi_model.specs.Bus.{is_core}
 use Rattle.pmsi_model.specs.Job.{JobValue}
 use Rattle.pmsi_model.specs.Machine.{Machine, CoreState, Request, mode_of}
@@ -48,7 +49,8 @@ first_served c None b is = absurd (grind arith)
 first_served c (Some d) b is = let same : d ≡ c = grind arith in ap (λ (n : ℕ). Some n) same
 
 -- there is room for the states: a listed line is to be written back, or is the one that is asked for
-pub states_room : (posted : List Request) (c : ℕ) (v : State) → KnowsStates posted c v → length v.pending.write_backs ≤ 16 → length v.states < STATES_ROOM
+pub states_room : (posted : List Request) (c : ℕ) (v : State) → KnowsStates posted c v → length v.pending.write_backs ≤ MAX_CORES
+    → length v.states < STATES_ROOM
 states_room posted c v knows few = let most = knows_within posted c (core_of v) v.states knows.once knows.names in omega arith
 
 -- ---- a duty is done

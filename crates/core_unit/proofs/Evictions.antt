@@ -6,6 +6,7 @@ use Rattle.pmsi_model.specs.declared.Access.{Access}
 use Rattle.pmsi_model.specs.declared.Mode.{Mode}
 use Rattle.pmsi_model.specs.declared.Mode.TheVariants.{Shared, Modified}
 use Rattle.pmsi_model.specs.declared.State.{State as LineName}
+use Rattle.pmsi_model.specs.declared.limits.TheConstants.{MAX_CORES}
 use Rattle.pmsi_model.specs.declared.State.TheVariants.{I, S, M, ISD, ISDI, IMD, IMDS, IMDI, SMW, SMWS, MSWB, MIWB}
 use Rattle.pmsi_model.specs.Access.{kind_of}
 use Rattle.pmsi_model.specs.Coherent.{HoldsEachOnce, posted_request}
@@ -158,7 +159,7 @@ module _ (access : Access) (posted : List Request) (c : ℕ) (v : State) (once :
   missed_knows = knows_by (gone_for (line_of v.cache.shape access.address) v) refl
 
   -- and can choose the line that leaves
-  pub makes_room : length v.pending.write_backs < v.pending.cores → v.pending.cores ≤ 16 → CanMakeRoom (line_of v.cache.shape access.address) v
+  pub makes_room : length v.pending.write_backs < v.pending.cores → v.pending.cores ≤ MAX_CORES → CanMakeRoom (line_of v.cache.shape access.address) v
   makes_room room few h gone = let next = entry h gone in
       let name : LineName = state_in posted c (missed v.cache.shape v.slot access (core_of v)) h.0 in
       let duty : Duty = choose_duty h.1 (has_line h.0 v.pending.write_backs) in record {
