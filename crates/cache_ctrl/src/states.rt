@@ -1,5 +1,5 @@
 //! The states of a core's lines.
-ghost use Rattle.std.specs.Prelude.{◌≡◌, ◌≢◌, ◌<◌, [], ◌∷◌, ◌++◌, ◌==◌, length, Some, None, option_map};
+ghost use Rattle.std.specs.Prelude.{◌≡◌, ◌≢◌, ◌<◌, [], ◌++◌, ◌==◌, length, Some, None, option_map};
 ghost use Rattle.std.specs.List.{find};
 ghost use Rattle.cache_ctrl.specs.declared.states.TheConstants.{STATES_ROOM};
 ghost use Rattle.cache_ctrl.specs.Table.{next_of};

@@ -1,5 +1,5 @@
 //! A core's registers.
-ghost use Rattle.std.specs.Prelude.{◌≡◌, ◌<◌};
+ghost use Rattle.std.specs.Prelude.{◌≡◌};
 ghost use Rattle.pmsi_model.specs.Effect.{reg_of, start_regs, with_reg};
 
 use pmsi_model::Reg;
