@@ -1,6 +1,5 @@
 //! The lines that a core has to write back, in order.
 ghost use Rattle.std.specs.Prelude.{◌≡◌, ◌<◌, [], ◌∷◌, ◌++◌, length, IfSome, is_some};
-ghost use Rattle.arrayvec.specs.ArrayVec.{array_vec_len};
 ghost use Rattle.pmsi_model.specs.declared.limits.TheConstants.{MAX_CORES};
 ghost use Rattle.pmsi_model.specs.Bus.{can_write_back};
 ghost use Rattle.pmsi_model.specs.Machine.{has_line};

@@ -1,6 +1,6 @@
 //! Words put together from their fields, one function for each format of the RISC-V Unprivileged ISA (sections 2.2 and
 //! 2.3).
-ghost use Rattle.std.specs.Prelude.{◌≡◌, ◌+◌, ◌<◌, ◌≤◌, ◌^◌};
+ghost use Rattle.std.specs.Prelude.{◌≡◌, ◌<◌, ◌^◌};
 ghost use Rattle.rv_decode.specs.Formats.{imm_bits, r_word, i_word, s_word, b_word, u_word, j_word};
 
 use pmsi_model::Reg;
