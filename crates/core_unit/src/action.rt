@@ -1,5 +1,5 @@
 //! A core's action in an own slot.
-ghost use Rattle.std.specs.Prelude.{◌≡◌, ◌≢◌, ℕ, ◌+◌, ◌%◌, ◌^◌, ◌<◌, ◌∷◌, List, length, Some, None, true, option_map};
+ghost use Rattle.std.specs.Prelude.{◌≡◌, ◌≢◌, ℕ, ◌+◌, ◌%◌, ◌^◌, ◌<◌, ◌∷◌, List, length, Some, None, option_map};
 ghost use Rattle.arrayvec.specs.ArrayVec.{array_vec_len};
 ghost use Rattle.pmsi_model.specs.Access.{width_of};
 ghost use Rattle.pmsi_model.specs.declared.Want.{Want};

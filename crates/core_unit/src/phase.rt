@@ -1,6 +1,6 @@
 //! A core's phase of a slot: at most a quantum of instructions.
 ghost use Rattle.std.specs.Prelude.{◌≡◌, ℕ, ◌+◌, ◌%◌, ◌^◌, ◌<◌, true, IfSome, Some, None, is_some};
-ghost use Rattle.pmsi_model.specs.Access.{kind_of, width_of};
+ghost use Rattle.pmsi_model.specs.Access.{width_of};
 ghost use Rattle.pmsi_model.specs.Effect.{Memory as MemoryEffect};
 ghost use Rattle.pmsi_model.specs.Geometry.{IsGeometry, line_of};
 ghost use Rattle.pmsi_model.specs.Instruction.{instr_of};

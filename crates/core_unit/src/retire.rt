@@ -1,5 +1,5 @@
 //! An access that is done, on the word that it meets.
-ghost use Rattle.std.specs.Prelude.{◌≡◌, ℕ, ◌+◌, ◌%◌, ◌^◌, ◌<◌, ◌∷◌, []};
+ghost use Rattle.std.specs.Prelude.{◌≡◌, ◌+◌, ◌%◌, ◌^◌, ◌<◌};
 ghost use Rattle.pmsi_model.specs.Access.{width_of};
 ghost use Rattle.pmsi_model.specs.Words.{bytes_of};
 ghost use Rattle.rv_exec.specs.Accesses.{bytes_after};
