@@ -1,5 +1,5 @@
 //! The three lines of a core.
-ghost use Rattle.std.specs.Prelude.{◌≡◌, ℕ, ◌++◌, codes, OnOk};
+ghost use Rattle.std.specs.Prelude.{◌≡◌, ◌++◌, OnOk};
 ghost use Rattle.pmsi_model.specs.Lines.{halt_text, status_text, core_line, regs_line, mode_text, held_text, held_line};
 ghost use Rattle.cache_array.specs.Cache.{held_of};
 ghost use Rattle.core_lines.specs.Regs.{reg_text};
