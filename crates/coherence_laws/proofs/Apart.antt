@@ -104,7 +104,7 @@ module _ (job : JobValue) (x : Machine) (count : ℕ) (y : Machine) (s : IsSound
   not_owned : (d line : ℕ) → d ≢ count → mode_of line (phase_end job d x).core.held ≢ None → mode_of line (y.cores count).held ≢ Some Modified
   not_owned d line other holds owned = let none : mode_of line (x.cores d).held ≡ None = s.alone count d line (owned_before line owned) other in
       let less : (mode_of line (phase_end job d x).core.held ≡ mode_of line (x.cores d).held) ⊎ (mode_of line (phase_end job d x).core.held ≡ None) =
-          (phase_framed job d x s).less line in
+      (phase_framed job d x s).less line in
       grind arith
 
   apart_next : IsApartTo job x (suc count) (phase job count y)
@@ -118,7 +118,7 @@ module _ (job : JobValue) (x : Machine) (count : ℕ) (y : Machine) (s : IsSound
     rest = λ d past. phase-other job count d y (omega arith) ∙ a.rest d (omega arith);
     held = λ d at below holds. dite (ℕ_discrete d count)
         (λ same. subst (λ (n : ℕ). mode_of (line_of job.shape at) (phase_end job n x).core.held ≢ None
-            → get_or (phase_end job count y).memory at 0 ≡ get_or (phase_end job n x).memory at 0) (sym same)
+        → get_or (phase_end job count y).memory at 0 ≡ get_or (phase_end job n x).memory at 0) (sym same)
         (λ here. sym (alike.held (line_of job.shape at) here at refl)) holds)
         (λ other. framed.others at (not_owned d (line_of job.shape at) other holds) ∙ a.held d at (omega arith) holds);
     unowned = λ at nobody. framed.others at (λ owned. nobody count (omega arith) (owned_before (line_of job.shape at) owned)) ∙ a.unowned at (λ d below. nobody d (omega arith));
@@ -147,7 +147,7 @@ phases_are_apart_from job x s = let y : Machine = after_phases job x in let a : 
   held = λ c line below holds. line_bytes-same job.shape line y.memory (phase job c x).memory
       (a.extent ∙ sym (ap length (phase-memory job c x) ∙ (phase_framed job c x s).size ∙ s.extent))
       (λ at on. a.held c at below (λ none. holds (ap (λ (k : CoreState). mode_of line k.held) (phase-own job c x)
-          ∙ subst (λ (l : ℕ). mode_of l (phase_end job c x).core.held ≡ None) on none))
+      ∙ subst (λ (l : ℕ). mode_of l (phase_end job c x).core.held ≡ None) on none))
       ∙ ap (λ (m : List ℕ). get_or m at 0) (sym (phase-memory job c x)));
   touches = touches_apart job x job.shape.cores (phases_touches_apart job x s);
   unowned = λ line nobody. line_bytes-same job.shape line y.memory x.memory (a.extent ∙ sym s.extent)
@@ -155,7 +155,7 @@ phases_are_apart_from job x s = let y : Machine = after_phases job x in let a : 
       (ap (λ (k : CoreState). mode_of line k.held) (a.own d below) ∙ (phase_framed job d x s).owned line (subst (λ (l : ℕ). mode_in x d l ≡ Some Modified) on owned))));
   owner = λ line. owner_same y x job.shape.cores line (λ d below. ap (λ (k : CoreState). is_modified (mode_of line k.held)) (a.own d below)
       ∙ same_modified (mode_of line (phase_end job d x).core.held) (mode_of line (x.cores d).held)
-          ((phase_framed job d x s).less line) ((phase_framed job d x s).owned line));
+      ((phase_framed job d x s).less line) ((phase_framed job d x s).owned line));
 }
 
 -- after the phases of a slot a line that nobody owns is as before

@@ -116,7 +116,7 @@ can_execute job slot c count v p below runs =
     let s = p.stands.carries in let is = s.within.shape in let x : Machine = machine_at job slot in
     let f : FineCore job.shape (slot + 1) x.posted c (core_of v) = subst (FineCore job.shape (slot + 1) x.posted c) p.stands.core (fine_after job slot c count s.within) in
     let few : length v.pending.write_backs < job.shape.cores = backs_fewer job.shape (slot + 1) x.posted x.cores c (core_of v) (whole_in job slot s.within)
-        f s.below (runs_wantless (core_of v) runs) in
+    f s.below (runs_wantless (core_of v) runs) in
     let room = within_run slot job.shape.slots job.shape.quantum count p.more below in let r = p.touches.retired in
     let spare : v.retired < job.shape.slots * job.shape.quantum = omega arith in record {
       job = job;

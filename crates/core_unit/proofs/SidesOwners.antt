@@ -44,7 +44,7 @@ read_owns true line l held other = refl
 read_owns false line l held other = dite (ℕ_discrete l line)
     (λ same. subst (λ (n : ℕ). is_modified (mode_of n (filled_line Read false line held)) ≡ is_modified (mode_of n held)) (sym same)
     (let m : mode_of line (filled_line Read false line held) ≡ Some Shared = (let f = mode_to_front line line Shared held in grind arith)
-        in ap is_modified m ∙ sym (unmodified (mode_of line held) other)))
+    in ap is_modified m ∙ sym (unmodified (mode_of line held) other)))
     (λ there. ap is_modified (let f = mode_to_front l line Shared held in grind arith))
 
 -- other lines are held as before

@@ -57,7 +57,7 @@ post_own shape slot x c want line w is unposted =
     ap (λ p. state_in p c ((post x c want.kind want.line).cores c) line) (post-posted x c want.kind want.line) ∙ ap (λ k. state_in (x.posted ++ r ∷ []) c k line) (post-own x c want.kind want.line) in
     rw e (by_line line want.line (own_event want.kind ∷ []) (state_of x c line) (state_in (x.posted ++ r ∷ []) c (posted_core x.slot k) line)
     (λ same. rw same (ap after_entry (own_posts x.posted c x.slot k want none is v.read_unheld
-        (want_unowned want (mode_of want.line k.held) v.read_unheld v.write_unowned))))
+    (want_unowned want (mode_of want.line k.held) v.read_unheld v.write_unowned))))
     (λ apart. own_posts_else x.posted c x.slot k want line none apart))
 
 -- ---- fill
