@@ -1,15 +1,13 @@
 -- What the items of a line come to.
-use Rattle.std.proofs.Common.{◌≡◌, ℕ, ◌+◌, ◌*◌, true, List, [], ◌∷◌, ◌++◌, length, map, Option, None, refl, ap, sym, ◌∙◌, arith, append_assoc, append-nil, length-append}
-use Rattle.std.specs.Prelude.{ℤ, pos, negsuc, Result, Ok, Err, OnOk}
+use Rattle.std.proofs.Common.{◌≡◌, ℕ, ◌+◌, ◌*◌, List, [], ◌∷◌, ◌++◌, length, map, Option, None, refl, ap, sym, ◌∙◌, arith, append_assoc, append-nil, length-append}
+use Rattle.std.specs.Prelude.{ℤ, pos, Result, Ok, Err, OnOk}
 use Rattle.std.specs.Option.{option_or}
 use Rattle.std.specs.List.{All, AllZip, flat_map}
 use Rattle.std.proofs.lemmas.List.Elements.{All-nil, All-cons}
-use Rattle.pmsi_model.specs.Words.{word_of}
 use Rattle.asm_operands.specs.declared.expr.Expr as written
 use Rattle.asm_parse.specs.declared.item.Width.{Width}
 use Rattle.asm_operands.specs.Meanings.{expr}
-use Rattle.asm_operands.specs.Numbers.{is_number}
-use Rattle.asm_parse.specs.Mnemonics.{Item, in_32_bits}
+use Rattle.asm_parse.specs.Mnemonics.{Item}
 use Rattle.asm_parse.specs.Items.{bytes_in, number_of}
 use Rattle.asm_parse.specs.Assembly.{first_of, placed_from, named_number_fault, reach_fault, code_at, code_bytes, unknown_in, IsWordOf}
 use Rattle.asm_link.specs.Placed.{wide, faults_of, faults_in, codes_in, Appends, number_word, number_bytes, unfit}
@@ -50,11 +48,6 @@ pub two_appended : (names : List (List ℕ × ℤ)) (address : ℕ) (x y : Item)
 unfolding placed_from
 two_appended names address x y old mid new word other e f is also =
     (word ∷ other ∷ [], f ∙ ap (λ (k : List ℕ). k ++ other ∷ []) e ∙ append_assoc old (word ∷ []) (other ∷ []), (is, (also, tt)))
-
--- a number of a source as a word
-pub same_word : (n : ℤ) → is_number n ≡ true → in_32_bits n ≡ word_of n
-same_word (pos n) number = grind (arith, number)
-same_word (negsuc n) number = grind (arith, number)
 
 words_of : (names : List (List ℕ × ℤ)) (width : Width) (address : ℕ) (numbers : List written.Expr)
     → AllZip IsWordOf (codes_in names address (map (wide (bytes_in width)) (map (number_of width) numbers))) (map (number_word names) numbers)

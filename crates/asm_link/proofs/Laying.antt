@@ -1,6 +1,6 @@
 -- How a layout goes from line to line.
 use Rattle.std.proofs.Common.{◌≡◌, ℕ, suc, ◌+◌, ◌*◌, Bool, true, false, List, [], ◌∷◌, ◌++◌, length, map, Option, Some, None, refl, ap, sym, subst, ◌∙◌, arith, length-append}
-use Rattle.std.specs.Prelude.{cond, if◌then◌else◌, ℤ, nat_le, nat_lt, ◌&&◌, ◌==◌, not}
+use Rattle.std.specs.Prelude.{cond, if◌then◌else◌, ℤ, ◌==◌, not}
 use Rattle.std.specs.List.{AllZip, filter, sum_by}
 use Rattle.std.proofs.lemmas.List.Sums.{sum_by-cons}
 use Rattle.std.proofs.lemmas.List.Elements.{All-nil, All-cons, All-append, filter-append}
@@ -16,7 +16,6 @@ use Rattle.asm_parse.specs.ReadLines.{IsReadAs, asked_by, fault_of}
 use Rattle.asm_parse.specs.Assembly.{Before, Step, Statement, at_start, at_line, after_step, step_of, first_of, placing_fault, first_twice, defined_by, equs_of, here, items_of, moved, labels_of, statement_of}
 use Rattle.asm_parse.specs.Items as items
 use Rattle.asm_link.specs.declared.layout.Layout.{Layout}
-use Rattle.asm_link.specs.Bytes.{byte_of}
 use Rattle.asm_link.specs.Defined.{Defines, RefusesTwice, labelled, names_in}
 use Rattle.asm_link.specs.Rounds.{IsLayout, IsStep, IsNamed, before_of, has_items, kept_of, runs_of, next_step, room_fault, AddsLine, RefusesLine}
 use Rattle.asm_link.proofs.NameLaws.{defines_more, labelled_named}
@@ -112,10 +111,6 @@ refuses_room layout line read cause names more equs reads defines no_room steps 
     ap (λ (k : Step). at_line layout.number k.fault) (read_step steps line read r) ∙ ap (at_line layout.number) e
 
 -- ---- the next layout
-
-IsNamed_more : (old new : List (Option ℕ)) (runs : List (ℕ × ℕ)) (from count : ℕ) → IsNamed old runs
-    → ((address : ℕ) → byte_of new address ≡ (if nat_le from address && nat_lt address (from + count) then Some 0 else byte_of old address)) → IsNamed new ((from, count) ∷ runs)
-IsNamed_more old new runs from count named puts address = grind (arith, named address, puts address)
 
 pub AllZip_append : {A B : Type 0} (R : A → B → Type 0) (xs : List A) (ys : List B) (us : List A) (vs : List B) → AllZip R xs ys → AllZip R us vs → AllZip R (xs ++ us) (ys ++ vs)
 AllZip_append R [] [] us vs a b = b

@@ -26,9 +26,6 @@ get_within [] k lt = absurd (omega (arith, lt))
 get_within (x ∷ xs) zero lt = refl
 get_within (x ∷ xs) (suc k) lt = get_within xs k (omega (arith, lt))
 
-pub overwrites_none : (old : List (Option ℕ)) (at : ℕ) → Overwrites old old at []
-overwrites_none old at address = grind (arith, nat_tests)
-
 pub overwrites_more : (old mid new : List (Option ℕ)) (at next : ℕ) (xs ys : List ℕ) → next ≡ at + length xs → Overwrites old mid at xs → Overwrites mid new next ys → Overwrites old new at (xs ++ ys)
 overwrites_more old mid new at next xs ys e first second address =
     grind (arith, nat_tests, e, first address, second address, length-append xs ys, get_front xs ys (address - at), get_behind xs ys (address - at))

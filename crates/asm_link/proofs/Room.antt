@@ -12,7 +12,7 @@ use Rattle.asm_parse.specs.Assembly.{Statement, Nothing, Switch, Emit, Zeros, Mo
 use Rattle.asm_link.specs.declared.step.Step.{Step}
 use Rattle.asm_link.specs.Bytes.{byte_of}
 use Rattle.asm_link.specs.Placed.{codes_in}
-use Rattle.asm_link.specs.Filled.{HasRoom, IsKept, data_bytes}
+use Rattle.asm_link.specs.Filled.{HasRoom, IsKept}
 use Rattle.asm_link.specs.Rounds.{IsWithin, kept_of}
 use Rattle.asm_link.proofs.Emitted.{number_codes, numbers_long}
 use Rattle.asm_link.proofs.Laying.{size_of_items}
@@ -30,14 +30,6 @@ bytes_fit names address (does.Numbers width numbers) sound =
 bytes_fit names address (does.Zeros count) sound = omega arith
 bytes_fit names address (does.MoveTo to) sound = omega arith
 bytes_fit names address (does.Define name n) sound = omega arith
-
-fits_if : (names : List (List ℕ × ℤ)) (address : ℕ) (statement : read.Statement) (in_data : Bool) → IsSound in_data statement
-    → length (if in_data then flat_map code_bytes (codes_in names address (items_of (statement_of statement))) else []) ≤ (if in_data then size_of (statement_of statement) else 0)
-fits_if names address statement true sound = bytes_fit names address statement sound
-fits_if names address statement false sound = omega arith
-
-pub data_fits : (names : List (List ℕ × ℤ)) (step : Step) → IsSound step.in_data step.does → length (data_bytes names step) ≤ (if step.in_data then size_of (statement_of step.does) else 0)
-data_fits names step sound = fits_if names step.address step.does step.in_data sound
 
 all_if : {A : Type 0} (P : A → Type 0) (test : Bool) (x : A) → P x → All P (if test then x ∷ [] else [])
 all_if P true x p = All-cons P x [] p (All-nil P)

@@ -1,6 +1,6 @@
 //! The bytes that data names.
 
-ghost use Rattle.std.specs.Prelude.{◌≡◌, ℕ, ◌+◌, ◌≤◌, ◌-◌, ◌<◌, ◌&&◌, nat_le, nat_lt, length, slice_get, slice_index, if◌then◌else◌, map, is_some, Option, Some, None, IfOk, OnOk};
+ghost use Rattle.std.specs.Prelude.{◌≡◌, ℕ, ◌+◌, ◌≤◌, ◌-◌, ◌<◌, length, slice_index, is_some, Option, Some, None, IfOk, OnOk};
 ghost use Rattle.std.specs.List.{All, find, range_with_len};
 ghost use Rattle.std.specs.Option.{IsSome};
 ghost use Rattle.pmsi_model.specs.declared.limits.TheConstants.{MAX_MEMORY};

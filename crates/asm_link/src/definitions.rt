@@ -1,6 +1,6 @@
 //! Defines the names of a line.
 
-ghost use Rattle.std.specs.Prelude.{◌≡◌, ◌≢◌, ◌≤◌, [], ◌∷◌, IfErr, OnOk};
+ghost use Rattle.std.specs.Prelude.{◌≢◌, ◌≤◌, [], ◌∷◌, IfErr, OnOk};
 ghost use Rattle.pmsi_model.specs.declared.limits.TheConstants.{MAX_MEMORY};
 ghost use Rattle.asm_operands.specs.Meanings.{lexeme, lexemes};
 ghost use Rattle.asm_parse.specs.Items.{statement_of};

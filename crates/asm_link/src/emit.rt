@@ -1,6 +1,6 @@
 //! Puts lines into words of text and bytes of data.
 
-ghost use Rattle.std.specs.Prelude.{◌≡◌, ℕ, ◌+◌, ◌≤◌, ◌<◌, ◌++◌, false, true, length, map, None, OnOk, IsSome};
+ghost use Rattle.std.specs.Prelude.{◌≡◌, ℕ, ◌+◌, ◌≤◌, ◌<◌, ◌++◌, length, map, None, OnOk, IsSome};
 ghost use Rattle.std.specs.List.{All, flat_map};
 ghost use Rattle.pmsi_model.specs.declared.limits.TheConstants.{MAX_MEMORY};
 ghost use Rattle.asm_parse.specs.Assembly.{items_of};

@@ -1,6 +1,6 @@
 //! The second round: gives names their values, and puts lines into text and data.
 
-ghost use Rattle.std.specs.Prelude.{◌≡◌, ◌≢◌, ℕ, ◌<◌, ◌^◌, map, true, None, Some, IfErr, IfOk, OnOk};
+ghost use Rattle.std.specs.Prelude.{◌≡◌, ◌≢◌, ◌<◌, ◌^◌, true, None, Some, IfErr, IfOk, OnOk};
 ghost use Rattle.std.specs.List.{All, AllZip, flat_map};
 ghost use Rattle.asm_parse.specs.Assembly.{at_line, IsWordOf};
 ghost use Rattle.asm_link.specs.Values.{held};
