@@ -36,10 +36,6 @@ first_core first images address = refl
 
 -- ---- the first core with a byte of a kind
 
--- no core below one has such a byte
-abbrev pub NoneBelow : List ImageValue → (ℕ → ℕ → Option ℕ → Type 0) → ℕ → Type 0
-NoneBelow images Fits core = (other address : ℕ) → other < core → Fits other address (byte_of images other address) → ⊥
-
 module _ (shape : Geometry) (images : List ImageValue) (core : ℕ) where
   pub record AreWithinTo : Type 0 where
     pub to : (other address : ℕ) → other < core → IsPast shape images other address → ⊥

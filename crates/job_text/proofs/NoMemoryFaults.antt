@@ -19,9 +19,6 @@ use Rattle.job_text.specs.Sayings.{is_version, read_line}
 abbrev IsFree : Option JobFault → Type 0
 IsFree found = found ≢ Some NoMemory
 
-none_free : IsFree None
-none_free = λ e. cc
-
 first_free : (first : Option JobFault) (others : List (Option JobFault)) → IsFree first → IsFree (first_of others) → IsFree (first_of (first ∷ others))
 unfolding first_of
 first_free None others one two = two

@@ -7,10 +7,6 @@ abbrev pub behind : List ℕ → Option (List ℕ) → Option (List ℕ)
 behind words None = None
 behind words (Some others) = Some (words ++ others)
 
-pub begin : (others : Option (List ℕ)) → others ≡ behind [] others
-begin None = refl
-begin (Some others) = refl
-
 cons_behind : (words : List ℕ) (word : ℕ) (others : Option (List ℕ)) → behind words (cons_if (Some word) others) ≡ behind (words ++ word ∷ []) others
 cons_behind words word None = refl
 cons_behind words word (Some others) = rw append_assoc refl
