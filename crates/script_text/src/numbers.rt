@@ -1,6 +1,6 @@
 //! Numbers in fields.
 
-ghost use Rattle.std.specs.Prelude.{◌≡◌, ◌+◌, ◌*◌, ◌^◌, ◌<◌, ◌≤◌, true, false, IfSome, IfNone};
+ghost use Rattle.std.specs.Prelude.{◌≡◌, ◌+◌, ◌*◌, ◌^◌, ◌<◌, ◌≤◌, true, IfSome, IfNone};
 ghost use Rattle.std.specs.Char.{digit_value, is_digit};
 ghost use Rattle.script_text.specs.Script.{number_in, spelt_in};
 ghost use Rattle.script_text.specs.Reads.{IsPast};

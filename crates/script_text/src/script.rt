@@ -68,7 +68,8 @@ fn add_line(
     requires shape { IsGeometry shape.now }
     requires range { All (λ command. is_in_range shape.now command ≡ true) commands.old.items }
     ensures range { OnOk result (All (λ command. is_in_range shape.now command ≡ true) commands.new.items) }
-    ensures ok { OnOk result ((rows : List Row) → commands_in shape.now commands.old.items (with_row (record { number = number; fields = fields_of line.now }) rows)
+    ensures ok { OnOk result ((rows : List Row)
+        → commands_in shape.now commands.old.items (with_row (record { number = number; fields = fields_of line.now }) rows)
         ≡ commands_in shape.now commands.new.items rows) }
     ensures err { IfErr result (λ fault. fault ≢ NoMemory → (rows : List Row)
         → commands_in shape.now commands.old.items (with_row (record { number = number; fields = fields_of line.now }) rows) ≡ Err fault) }

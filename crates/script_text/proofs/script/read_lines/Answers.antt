@@ -1,4 +1,4 @@
-use Rattle.std.proofs.Common.{◌≡◌, ◌∙◌, arith, rules, sym, ap}
+use Rattle.std.proofs.Common.{◌∙◌, arith, rules, sym, ap}
 use Rattle.std.specs.Str.Lines.{lines}
 use Rattle.job_text.specs.Cutting.{rows_from}
 use Rattle.script_text.specs.Script.{commands_in}
