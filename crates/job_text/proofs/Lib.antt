@@ -9,7 +9,6 @@ pub mod Generations
 pub mod HeadTables
 pub mod ImageBytes
 pub mod Judgings
-pub mod LineCuts
 pub mod Makings
 pub mod NamedCells
 pub mod NoMemoryFaults

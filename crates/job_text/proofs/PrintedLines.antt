@@ -9,7 +9,7 @@ use Rattle.std.proofs.lemmas.List.Sums.{position_or_len_is}
 use Rattle.std.proofs.lemmas.Str.{IsUtf8-append, IsUtf8-from_ascii}
 use Rattle.std.proofs.lemmas.Str.Ascii.{IsAscii-from_all}
 use Rattle.job_text.specs.Cutting.{fields_between, fields_of, is_blank, is_hash, rows_from}
-use Rattle.job_text.proofs.LineCuts.{first, kept}
+use Rattle.text_out.proofs.Exports.{first, kept}
 use Rattle.job_text.proofs.Fields.{first_before}
 use Rattle.job_text.proofs.PrintedFields.{IsField, IsFieldByte}
 

@@ -20,7 +20,7 @@ use Rattle.job_text.specs.Faults.{core_limit, cores_in, first_of, heads_limit, i
 use Rattle.job_text.specs.Laws.{PrintedMeans}
 use Rattle.job_text.specs.Plans.{HasFewWords, IsPlan, IsPrintable, SaysPrograms, SaysShape, core_lines, plan_text, shape_lines}
 use Rattle.job_text.specs.Sayings.{is_version}
-use Rattle.job_text.proofs.LineCuts.{none}
+use Rattle.text_out.proofs.Exports.{none}
 use Rattle.job_text.proofs.OneJoin.{get_some}
 use Rattle.job_text.proofs.RowReads.{first_only}
 use Rattle.job_text.proofs.SayingLists.{program_of_push}

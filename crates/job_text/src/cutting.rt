@@ -1,36 +1,10 @@
-//! Cuts a text into lines, and lines into fields.
+//! Cuts lines into fields.
 
 ghost use Rattle.std.specs.Prelude.{◌≡◌, ◌<◌, [], ◌∷◌, length, IfSome, IfNone};
 ghost use Rattle.std.specs.List.{before_first, position_or_len, prefix_len};
 ghost use Rattle.std.specs.Option.{option_map};
-ghost use Rattle.std.specs.Str.Lines.{lines, strip_carriage_return};
 ghost use Rattle.job_text.specs.Cutting.{is_blank, is_hash, fields_between};
 ghost use Rattle.job_text.specs.Sayings.{only_field};
-
-/// Takes the first line off a text that isn't at its end: gives the line and what stands after it.
-pub fn next_line(text: &str) -> Option<(&str, &str)>
-    ensures line { IfSome result (λ x. lines text.now ≡ x.0.now ∷ lines x.1.now) }
-    ensures end { IfNone result (lines text.now ≡ []) }
-    ensures shorter { IfSome result (λ x. length x.1.now < length text.now) }
-{
-    if text.is_empty() {
-        return None;
-    }
-    match text.split_once('\n') {
-        Some((line, rest)) => Some((without_return(line), rest)),
-        None => Some((text, "")),
-    }
-}
-
-/// What stands before a newline, without a byte 13 at its end.
-fn without_return(line: &str) -> &str
-    ensures { result.now ≡ strip_carriage_return line.now }
-{
-    match line.strip_suffix('\r') {
-        Some(line) => line,
-        None => line,
-    }
-}
 
 /// The line up to its comment.
 pub fn code_of(line: &str) -> &str

@@ -22,7 +22,7 @@ mod reading;
 mod rows;
 mod saying;
 
-pub use cutting::{code_of, next_field, next_line, only_field};
+pub use cutting::{code_of, next_field, only_field};
 pub use generating::generate;
 pub use job_fault::{HeadWord, JobFault, LineCause};
 pub use joining::join_job;

@@ -8,7 +8,7 @@ ghost use Rattle.job_text.specs.Sayings.{is_version};
 ghost use Rattle.job_text.specs.Rows.{IsReadTo, RefusesLine, TakesLine, TakesRow};
 ghost use Rattle.job_text.specs.Gathering.{HasSaid};
 
-use crate::cutting::{code_of, next_field, next_line, only_field};
+use crate::cutting::{code_of, next_field, only_field};
 use crate::gathered::Gathered;
 use crate::job_fault::{HeadWord, JobFault, LineCause};
 use crate::misread::Misread;
@@ -16,6 +16,7 @@ use crate::one_line::read_line;
 use crate::saying::Saying;
 use pmsi_model::limits::MAX_FILE_BYTES;
 use std::alloc::Global;
+use text_out::next_line;
 
 /// What the lines so far have left: whether one had fields, and what they say.
 #[derive(Drop)]

@@ -11,9 +11,10 @@ ghost use Rattle.script_text.specs.Script.{commands_in, is_in_range, script_of};
 use crate::command::Command;
 use crate::fault::ScriptFault;
 use crate::line::command_in;
-use job_text::{code_of, next_field, next_line};
+use job_text::{code_of, next_field};
 use pmsi_model::Geometry;
 use std::alloc::Global;
+use text_out::next_line;
 
 /// Reads a script for a machine of this shape: the commands of its lines, or the first thing that is wrong with it.
 #[tactic(auto, unfolding(crate::specs::Script::script_of))]

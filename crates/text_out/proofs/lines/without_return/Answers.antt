@@ -2,8 +2,8 @@ use Rattle.std.proofs.Common.{◌≡◌, ℕ, List, ◌++◌, ◌∷◌, [], lit
 use Rattle.std.specs.Prelude.{MatchOption, ◌≢◌}
 use Rattle.std.proofs.lemmas.Str.Pattern.{strip_suffix_char}
 use lib.Utf8.{encode}
-use Rattle.job_text.proofs.LineCuts.{stripped, kept}
-use Rattle.job_text.proofs.cutting.without_return.Goals as goal
+use Rattle.text_out.proofs.LineCuts.{stripped, kept}
+use Rattle.text_out.proofs.lines.without_return.Goals as goal
 
 pub returns-in-Some : goal.returns-in-Some
 returns-in-Some c = stripped c.args.line.now c.in-Some.line.now

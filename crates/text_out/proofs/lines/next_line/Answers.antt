@@ -1,8 +1,8 @@
 use Rattle.std.proofs.Common.{◌<◌, ◌∷◌, length, lit<, subst, sym, ap, ◌∙◌, arith}
 use Rattle.std.proofs.lemmas.Bool.{eqb-true, eqb-false}
 use Rattle.std.proofs.lemmas.Str.Pattern.{split_once_first}
-use Rattle.job_text.proofs.LineCuts.{IsCut, none, empty, cut_into, cut_last}
-use Rattle.job_text.proofs.cutting.next_line.Goals as goal
+use Rattle.text_out.proofs.LineCuts.{IsCut, none, empty, cut_into, cut_last}
+use Rattle.text_out.proofs.lines.next_line.Goals as goal
 
 pub returns-then-is_empty-clause-end : goal.returns-then-is_empty-clause-end
 returns-then-is_empty-clause-end c = empty c.args.text.now (eqb-true (length c.args.text.now) 0 (sym c.if-is_empty.ensures))
