@@ -2,31 +2,15 @@
 
 ghost use Rattle.std.specs.Prelude.{◌≡◌, ◌≤◌, ◌<◌, ◌∷◌, [], length, IfSome, IfNone};
 ghost use Rattle.std.specs.List.{after_first};
-ghost use Rattle.std.specs.Str.Lines.{strip_carriage_return};
 ghost use Rattle.asm_parse.specs.Lines.{lines_of, is_newline};
 
 /// Takes the first line off a source that isn't at its end: gives the line and what stands after it.
+#[tactic(auto, unfolding(crate::specs::Lines::lines_of))]
 pub fn next_line(source: &str) -> Option<(&str, &str)>
     ensures line { IfSome result (λ x. lines_of source.now ≡ x.0.now ∷ lines_of x.1.now) }
     ensures rest { IfSome result (λ x. x.1.now ≡ after_first is_newline source.now) }
     ensures end { IfNone result (lines_of source.now ≡ []) }
     ensures shorter { IfSome result (λ x. (length x.0.now ≤ length source.now) × (length x.1.now < length source.now)) }
 {
-    if source.is_empty() {
-        return None;
-    }
-    match source.split_once('\n') {
-        Some((line, rest)) => Some((without_return(line), rest)),
-        None => Some((source, "")),
-    }
-}
-
-/// What stands before a newline, without a byte 13 at its end.
-fn without_return(line: &str) -> &str
-    ensures { result.now ≡ strip_carriage_return line.now }
-{
-    match line.strip_suffix('\r') {
-        Some(line) => line,
-        None => line,
-    }
+    text_out::next_line(source)
 }

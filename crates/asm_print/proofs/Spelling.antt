@@ -12,7 +12,8 @@ use Rattle.asm_operands.specs.Tokens.{is_name_byte, is_blank, is_strange, kind_o
 use Rattle.asm_parse.specs.Lines.{lines_of}
 use Rattle.asm_operands.specs.Operands.{Lexeme, lexeme_of, lexemes_of}
 use Rattle.asm_operands.proofs.Exports.{Reached, starts, takes, skips, nowhere}
-use Rattle.asm_parse.proofs.Exports.{first, kept}
+use Rattle.asm_parse.proofs.Exports.{first}
+use Rattle.text_out.proofs.Exports.{kept}
 
 -- a run of name bytes, a mark, or a space
 pub data Part : Type 0 where
