@@ -2,5 +2,4 @@ pub mod Views
 pub mod LockTries
 pub mod LockReleases
 pub mod SeatLists
-pub mod Seatings
 pub mod TestSeats

@@ -10,7 +10,8 @@ use Rattle.pmsi_model.specs.Spreads.{Fits, IsMeet}
 use Rattle.pmsi_model.proofs.Spreads.{meets_fit}
 use Rattle.bus_lock.specs.declared.about.About.{About}
 use Rattle.bus_lock.specs.declared.view.View.{View}
-use Rattle.bus_lock.specs.Rule.{Slot, Table, Hand, IsBusAt, Knows, Absent, Kept, holds, slot_over, declined, released, IsHolding}
+use Rattle.bus_lock.specs.Rule.{Slot, Table, Hand, Knows, Kept, holds, slot_over, declined, released, IsHolding}
+use Rattle.turn_bus.specs.Sharing.{IsBusAt, Absent}
 use Rattle.bus_lock.proofs.Views.{views_stay, own_stays}
 use Rattle.bus_lock.proofs.LockTries.{Next}
 

@@ -13,7 +13,8 @@ use Rattle.pmsi_model.specs.Shared.{BusSide}
 use Rattle.pmsi_model.specs.Spreads.{Fits}
 use Rattle.bus_lock.specs.declared.about.About.{About}
 use Rattle.bus_lock.specs.declared.view.View.{View}
-use Rattle.bus_lock.specs.Rule.{Slot, Table, Hand, IsBusAt, Knows, bit, Kept, holds, missed, took, HasTaken, tried, Rests, Takes}
+use Rattle.bus_lock.specs.Rule.{Slot, Table, Hand, Knows, bit, Kept, holds, missed, took, HasTaken, tried, Rests, Takes}
+use Rattle.turn_bus.specs.Sharing.{IsBusAt}
 use Rattle.bus_lock.proofs.Views.{views_stay, set_at, own_stays, apart}
 
 or_even : (t : ℕ) → bit_or (2 * t) 1 ≡ 2 * t + 1

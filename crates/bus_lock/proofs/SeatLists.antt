@@ -11,7 +11,8 @@ use Rattle.pmsi_model.specs.Shared.{BusSide}
 use Rattle.pmsi_model.proofs.Spreads.{start_fits}
 use Rattle.bus_lock.specs.declared.about.About.{About}
 use Rattle.bus_lock.specs.declared.view.View.{View}
-use Rattle.bus_lock.specs.Rule.{Slot, Table, IsBusAt, Knows, Absent, Kept, holds, fresh_view, one_more, new_seat, with_joined, spent_view, Opening, Ending}
+use Rattle.bus_lock.specs.Rule.{Slot, Table, Knows, Kept, holds, fresh_view, one_more, new_seat, with_joined, spent_view, Opening, Ending}
+use Rattle.turn_bus.specs.Sharing.{IsBusAt, Absent}
 use Rattle.bus_lock.proofs.Views.{views_stay, was, own_stays, apart, at_end, AreApart}
 use Rattle.bus_lock.proofs.LockReleases.{here, there}
 

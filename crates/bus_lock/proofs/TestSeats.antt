@@ -9,7 +9,8 @@ use Rattle.core_unit.specs.Opened.{AreOpened}
 use Rattle.bus_lock.specs.declared.seat.BusSeat.{BusSeat}
 use Rattle.bus_lock.specs.declared.seat.SharedBus.{SharedBus}
 use Rattle.bus_lock.specs.Answers.{IsIn, SameSeat, StandsAt}
-use Rattle.bus_lock.specs.Seats.{view_of, IsOwn, IsSeat, AreSeats}
+use Rattle.turn_bus.specs.Sharing.{IsSeat, stage}
+use Rattle.bus_lock.specs.Seats.{view_of, IsOwn, seating, AreSeats}
 use Rattle.bus_lock.specs.TestRuns.{IsHere, AreHere}
 
 -- one element of a list is put in place of another
@@ -23,7 +24,7 @@ module _ (bus : SharedBus) (job : JobValue) where
   -- ---- before the first slot
 
   module _ (keep : Keep) (seats : List BusSeat) (cores : List State) (are : AreSeats bus job true 0 seats) (opened : AreOpened job keep cores) where
-    seat_at : (c : ℕ) (x : BusSeat) → c < job.shape.cores → IsSeat bus job true 0 job.shape.cores c (get_or seats c x)
+    seat_at : (c : ℕ) (x : BusSeat) → c < job.shape.cores → IsSeat (seating bus) (stage job true 0 job.shape.cores) c (get_or seats c x)
     seat_at c x below = are.seated.order c x (let n = are.all in omega arith)
 
     pub at_first : AreHere bus job seats cores
@@ -31,7 +32,8 @@ module _ (bus : SharedBus) (job : JobValue) where
       within = are.within;
       all_seats = are.all;
       all_cores = opened.all;
-      seat = λ c x below. let s = seat_at c x below in subst (λ n. IsSeat bus job true n job.shape.cores c (get_or seats c x)) (sym s.count_is) s;
+      seat = λ c x below. let s = seat_at c x below in
+          subst (λ n. IsSeat (seating bus) (stage job true n job.shape.cores) c (get_or seats c x)) (sym s.count_is) s;
       none_joined = are.seated.none_joined;
       stands = λ c x v below.
           let s = seat_at c x below in
@@ -92,14 +94,14 @@ module _ (bus : SharedBus) (job : JobValue) where
   some_core (v ∷ vs) c below = v
 
   module _ (seats : List BusSeat) (cores : List State) (here : AreHere bus job seats cores) (over : (c : ℕ) (v : State) → c < length cores → (get_or cores c v).slot ≡ job.shape.slots) where
-    last_seat : (c : ℕ) (x : BusSeat) → c < length seats → IsSeat bus job true job.shape.slots job.shape.cores c (get_or seats c x)
+    last_seat : (c : ℕ) (x : BusSeat) → c < length seats → IsSeat (seating bus) (stage job true job.shape.slots job.shape.cores) c (get_or seats c x)
     last_seat c x below =
         let n = here.all_seats in
         let m = here.all_cores in
         let low : c < length cores = omega arith in
         let v = some_core cores c low in
         let count : (view_of (get_or seats c x)).count ≡ job.shape.slots = sym (slot_is (get_or seats c x) (get_or cores c v) (here.stands c x v (omega arith))) ∙ over c v low in
-        subst (λ n. IsSeat bus job true n job.shape.cores c (get_or seats c x)) count (here.seat c x (omega arith))
+        subst (λ n. IsSeat (seating bus) (stage job true n job.shape.cores) c (get_or seats c x)) count (here.seat c x (omega arith))
 
     pub at_last : AreSeats bus job true job.shape.slots seats
     at_last = record { within = here.within; all = here.all_seats; seated = record { order = last_seat; none_joined = here.none_joined } }

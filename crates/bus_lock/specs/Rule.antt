@@ -1,14 +1,14 @@
 -- The rule that holds between any two atomic steps, over the lock word, the bus, and what the seats know.
 -- Word 0 is twice the slot at which the bus stands, its turn, plus 1 while a seat holds the lock.
-use Rattle.std.specs.Prelude.{◌≡◌, ◌≢◌, ◌⊎◌, ℕ, ◌+◌, ◌*◌, ◌<◌, ◌≤◌, List, [], ◌∷◌, Bool, true, false, length, slice_index, Option, Some, None}
+use Rattle.std.specs.Prelude.{◌≡◌, ◌⊎◌, ℕ, ◌+◌, ◌*◌, ◌<◌, ◌≤◌, List, [], ◌∷◌, Bool, true, false, length, slice_index, Option, Some, None}
 use mathlib.Core.Option.{some, none}
 use lib.ListN.{get_elem?}
 use Rattle.atomic_table.specs.Table.{State, Me, Step, rest}
 use Rattle.pmsi_model.specs.declared.limits.TheConstants.{MAX_SLOTS}
 use Rattle.pmsi_model.specs.Job.{JobValue, IsJob}
 use Rattle.pmsi_model.specs.Shared.{BusSide}
-use Rattle.pmsi_model.specs.Parts.{IsBusPart}
 use Rattle.pmsi_model.specs.Spreads.{Fits}
+use Rattle.turn_bus.specs.Sharing.{IsBusAt, Absent, Knowing, HasAll}
 use Rattle.bus_lock.specs.declared.about.About.{About}
 use Rattle.bus_lock.specs.declared.view.View.{View}
 
@@ -23,13 +23,9 @@ Table = State Slot View
 abbrev pub Hand : Type 0
 Hand = Me Slot View
 
--- the bus of a job at the boundary of a slot, which keeps this
-abbrev pub IsBusAt : JobValue → Bool → ℕ → BusSide → Type 0
-IsBusAt job keeps turn b = IsBusPart job turn b × (b.keeps ≡ keeps)
-
-abbrev pub Absent : ℕ → List ℕ → Type 0
-Absent x [] = Unit {0}
-Absent x (y ∷ ys) = (x ≢ y) × Absent x ys
+-- what a seat knows, of that which any seat of a shared bus does
+abbrev pub knowing : View → Knowing
+knowing v = record { job = v.job; keeps = v.keeps; number = v.number; count = v.count; made = v.made; joined = v.joined }
 
 -- ---- the rule
 
@@ -162,7 +158,5 @@ pub record Opening (v : View) : Type 0 where
   pub room : v.made < v.job.shape.cores
 
 -- after the last slot, with all other seats joined into it
-pub record Ending (v : View) : Type 0 where
-  pub zero : v.number ≡ 0
-  pub over : v.count ≡ v.job.shape.slots
-  pub all_joined : (number : ℕ) → 0 < number → number < v.made → ¬ Absent number v.joined
+abbrev pub Ending : View → Type 0
+Ending v = HasAll (knowing v)

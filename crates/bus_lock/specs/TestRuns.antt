@@ -3,13 +3,14 @@ use Rattle.std.specs.Prelude.{◌≡◌, ℕ, ◌<◌, List, [], true, length, s
 use Rattle.pmsi_model.specs.Job.{JobValue, IsJob}
 use Rattle.core_unit.specs.declared.state.State.{State}
 use Rattle.bus_lock.specs.Answers.{StandsAt}
-use Rattle.bus_lock.specs.Seats.{IsSeat, view_of}
+use Rattle.turn_bus.specs.Sharing.{IsSeat, stage}
+use Rattle.bus_lock.specs.Seats.{seating, view_of}
 use Rattle.bus_lock.specs.declared.seat.BusSeat.{BusSeat}
 use Rattle.bus_lock.specs.declared.seat.SharedBus.{SharedBus}
 
 -- the seat of core `c`, at its own count
 abbrev pub IsHere : SharedBus → JobValue → ℕ → BusSeat → Type 0
-IsHere bus job c seat = IsSeat bus job true (view_of seat).count job.shape.cores c seat
+IsHere bus job c seat = IsSeat (seating bus) (stage job true (view_of seat).count job.shape.cores) c seat
 
 -- the seats of all cores of a job on this bus, none of them joined, and the cores with them
 pub record AreHere (bus : SharedBus) (job : JobValue) (seats : List BusSeat) (cores : List State) : Type 0 where

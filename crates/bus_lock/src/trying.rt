@@ -2,7 +2,8 @@
 ghost use Rattle.std.specs.Prelude.{◌≡◌, ◌+◌, ◌*◌, [], IfOk, IfErr};
 ghost use Rattle.pmsi_model.specs.Spreads.{Fits, IsMeet};
 ghost use Rattle.core_unit.specs.Parts.{IsPartAfter};
-ghost use Rattle.bus_lock.specs.Rule.{Rests, Takes, IsBusAt, IsHolding, missed, slot_over, declined};
+ghost use Rattle.bus_lock.specs.Rule.{Rests, Takes, IsHolding, missed, slot_over, declined};
+ghost use Rattle.turn_bus.specs.Sharing.{IsBusAt};
 ghost use Rattle.bus_lock.specs.Answers.{Answers, SameSeat, StandsAt};
 ghost use Rattle.bus_lock.specs.Seats.{IsOwn, view_of};
 

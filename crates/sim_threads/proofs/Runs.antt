@@ -1,18 +1,18 @@
 -- The members of a job, before the first slot and after the last.
-use Rattle.std.proofs.Common.{◌≡◌, ◌≢◌, ◌⊎◌, ℕ, ◌+◌, ◌<◌, ◌≤◌, Bool, List, [], ◌∷◌, ◌++◌, length, map, take, get_or, sym, ap, ◌∙◌, subst, refl, arith, inl, inr, ⊎_elim}
+use Rattle.std.proofs.Common.{◌≡◌, ◌⊎◌, ℕ, ◌+◌, ◌<◌, List, [], ◌∷◌, ◌++◌, length, take, get_or, sym, ap, ◌∙◌, subst, arith, inl, ⊎_elim}
 use Rattle.std.proofs.lemmas.Grind.{common_steps}
 use Rattle.std.proofs.lemmas.List.{get_or-map}
 use Rattle.pmsi_model.specs.declared.Keep.{Keep}
 use Rattle.pmsi_model.specs.Job.{JobValue}
 use Rattle.core_unit.specs.declared.state.State.{State}
 use Rattle.core_unit.specs.Opened.{AreOpened}
-use Rattle.core_unit.specs.Parts.{IsPart, IsPartAfter}
+use Rattle.core_unit.specs.Parts.{IsPart}
 use Rattle.sim_serial.specs.Cores.{AreParts, CoresKeep}
 use Rattle.turn_bus.specs.declared.seat.TurnSeat.{TurnSeat}
 use Rattle.turn_bus.specs.declared.seat.TurnBus.{TurnBus}
-use Rattle.turn_bus.specs.declared.view.View.{View}
-use Rattle.turn_bus.specs.Answers.{IsIn, SameSeat}
-use Rattle.turn_bus.specs.Seats.{IsSeat, AreSeats, view_of}
+use Rattle.turn_bus.specs.Answers.{IsIn}
+use Rattle.turn_bus.specs.Sharing.{IsSeat, stage}
+use Rattle.turn_bus.specs.Seats.{AreSeats, seating, view_of}
 use Rattle.core_worker.specs.declared.member.Member.{Member}
 use Rattle.core_worker.specs.Members.{IsMember, GoesOn, IsOver, AreMembers, GoOn, AreOver}
 use Rattle.core_worker.specs.Zips.{cores_of, seats_of}
@@ -33,7 +33,7 @@ some_member (m ∷ ms) k below = m
 
 -- a member of a job, at a count, whose core keeps its accesses or not
 pub record IsOf (bus : TurnBus) (job : JobValue) (keep : Keep) (count k : ℕ) (m : Member) : Type 0 where
-  pub seat : IsSeat bus job keep.trace count job.shape.cores k m.seat
+  pub seat : IsSeat (seating bus) (stage job keep.trace count job.shape.cores) k m.seat
   pub core : IsIn job count k m.core
   pub keeps : m.core.keeps ≡ keep.touches
 
@@ -51,7 +51,8 @@ module _ (bus : TurnBus) (job : JobValue) (keep : Keep) (ms : List Member) where
         let is_core = ap (λ l. get_or l k d.core) (sym is_cores) ∙ core_at ms k d d.core below in
         let p = opened.part k d.core (omega arith) in
         let q = opened.keeps k d.core (omega arith) in record {
-          seat = subst (IsSeat bus job keep.trace 0 job.shape.cores k) (ap (λ l. get_or l k d.seat) (sym is_seats) ∙ seat_at ms k d d.seat below) s;
+          seat = subst (IsSeat (seating bus) (stage job keep.trace 0 job.shape.cores) k)
+              (ap (λ l. get_or l k d.seat) (sym is_seats) ∙ seat_at ms k d d.seat below) s;
           core = inl (subst (IsPart job 0 k) is_core p);
           keeps = subst (λ (v : State). v.keeps ≡ keep.touches) is_core q;
         }
@@ -130,7 +131,7 @@ module _ (bus : TurnBus) (job : JobValue) (keep : Keep) (ms : List Member) where
         all = count_seats;
         seated = record {
           order = λ k e below. let n = sized in let c = count_seats in let h : k < length ns = omega arith in let d = some_member ns k h in
-              subst (IsSeat bus job keep.trace job.shape.slots job.shape.cores k) (sym (seat_at ns k d e h)) (each k d h).seat;
+              subst (IsSeat (seating bus) (stage job keep.trace job.shape.slots job.shape.cores) k) (sym (seat_at ns k d e h)) (each k d h).seat;
           none_joined = λ e. let n = sized in let some = opened.within.shape.some_cores in let h : 0 < length ns = omega arith in let d = some_member ns 0 h in
               subst (λ (b : TurnSeat). (view_of b).joined ≡ []) (sym (seat_at ns 0 d e h)) (none_joined d);
         };

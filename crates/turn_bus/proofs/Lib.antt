@@ -4,3 +4,4 @@ pub mod TurnLooks
 pub mod TurnActs
 pub mod SeatLists
 pub mod Seatings
+pub mod Exports

@@ -11,7 +11,8 @@ use Rattle.pmsi_model.specs.Slots.{plan_of, gap_of}
 use Rattle.pmsi_model.proofs.Spreads.{start_fits}
 use Rattle.turn_bus.specs.declared.about.About.{About}
 use Rattle.turn_bus.specs.declared.view.View.{View}
-use Rattle.turn_bus.specs.Rule.{BusBox, Slot, Table, IsBusAt, Knows, Absent, Holds, Kept, holds, fresh_view, one_more, new_seat, with_joined, spent_view, Opening, Ending}
+use Rattle.turn_bus.specs.Rule.{BusBox, Slot, Table, Knows, Holds, Kept, holds, fresh_view, one_more, new_seat, with_joined, spent_view, Opening, Ending}
+use Rattle.turn_bus.specs.Sharing.{IsBusAt, Absent}
 use Rattle.turn_bus.proofs.Views.{views_stay, was, own_stays, apart, at_end, AreApart}
 use Rattle.turn_bus.proofs.TurnMoves.{here, there}
 

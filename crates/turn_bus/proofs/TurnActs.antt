@@ -16,7 +16,8 @@ use Rattle.pmsi_model.proofs.Spreads.{meets_fit}
 use Rattle.turn_bus.specs.declared.about.About.{About}
 use Rattle.turn_bus.specs.declared.view.View.{View}
 use Rattle.turn_bus.specs.ActionNumbers.{IsNumberOf}
-use Rattle.turn_bus.specs.Rule.{BusBox, Slot, Table, Hand, IsBusAt, IsStored, Holds, Kept, holds, word_of_slot, has_stored, has_acted, stores, acted, IsHolding}
+use Rattle.turn_bus.specs.Rule.{BusBox, Slot, Table, Hand, IsStored, Holds, Kept, holds, word_of_slot, has_stored, has_acted, stores, acted, IsHolding}
+use Rattle.turn_bus.specs.Sharing.{IsBusAt}
 use Rattle.turn_bus.proofs.Views.{views_stay, set_at}
 use Rattle.turn_bus.proofs.TurnMoves.{Next, Same, soon, here, there, each_moved, own_moved}
 

@@ -10,7 +10,8 @@ use Rattle.pmsi_model.specs.Spreads.{Fits}
 use Rattle.pmsi_model.proofs.Spreads.{own_turn}
 use Rattle.turn_bus.specs.declared.about.About.{About}
 use Rattle.turn_bus.specs.declared.view.View.{View}
-use Rattle.turn_bus.specs.Rule.{BusBox, Slot, Table, Hand, IsBusAt, Holds, Kept, holds, word_of_slot, has_loaded, has_noted, has_bus, looked, noted, taken, Rests}
+use Rattle.turn_bus.specs.Rule.{BusBox, Slot, Table, Hand, Holds, Kept, holds, word_of_slot, has_loaded, has_noted, has_bus, looked, noted, taken, Rests}
+use Rattle.turn_bus.specs.Sharing.{IsBusAt}
 use Rattle.turn_bus.proofs.Views.{views_stay, set_at, apart}
 use Rattle.turn_bus.proofs.TurnMoves.{Next, Same, soon, here, there, each_moved, own_moved, only_looks}
 

@@ -12,7 +12,8 @@ use Rattle.pmsi_model.proofs.Distances.{distance_some}
 use Rattle.slot_plan.proofs.Exports.{next_at_distance}
 use Rattle.turn_bus.specs.declared.about.About.{About}
 use Rattle.turn_bus.specs.declared.view.View.{View}
-use Rattle.turn_bus.specs.Rule.{Slot, Table, Hand, Knows, Holds, Absent, Kept, holds}
+use Rattle.turn_bus.specs.Rule.{Slot, Table, Hand, Knows, Holds, Kept, holds}
+use Rattle.turn_bus.specs.Sharing.{Absent}
 use Rattle.turn_bus.proofs.Views.{views_stay, own_stays, apart}
 
 -- the bus comes less than a gap past a core that it fits, so the ring still has the record of the core's slot

@@ -1,4 +1,5 @@
 pub mod ActionNumbers
+pub mod Sharing
 pub mod Rule
 pub mod Answers
 pub mod Seats

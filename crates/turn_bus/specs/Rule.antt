@@ -1,7 +1,7 @@
 -- The rule that holds between any two atomic steps, over the turn, the records, the bus, and what the seats know.
 -- Word 0 is the turn, the slot at which the bus stands. The other words are a ring as long as the plan's greatest gap: the
 -- record of a slot is stored in one of them, as a number.
-use Rattle.std.specs.Prelude.{◌≡◌, ◌≢◌, ℕ, ◌+◌, ◌%◌, ◌<◌, ◌≤◌, List, [], ◌∷◌, Bool, true, false, length, slice_index, Option, Some, None, Box}
+use Rattle.std.specs.Prelude.{◌≡◌, ℕ, ◌+◌, ◌%◌, ◌<◌, ◌≤◌, List, [], ◌∷◌, Bool, true, false, length, slice_index, Option, Some, None, Box}
 use Rattle.std.specs.declared.alloc.Global.{Global}
 use mathlib.Core.Option.{some}
 use lib.ListN.{get_elem?}
@@ -10,8 +10,8 @@ use Rattle.pmsi_model.specs.Job.{JobValue, IsJob}
 use Rattle.pmsi_model.specs.Slots.{SlotPlan, plan_of, owner_of_slot, gap_of}
 use Rattle.pmsi_model.specs.Run.{record_at}
 use Rattle.pmsi_model.specs.Shared.{BusSide}
-use Rattle.pmsi_model.specs.Parts.{IsBusPart}
 use Rattle.pmsi_model.specs.Spreads.{Fits}
+use Rattle.turn_bus.specs.Sharing.{IsBusAt, Absent, Knowing, HasAll}
 use Rattle.turn_bus.specs.declared.about.About.{About}
 use Rattle.turn_bus.specs.declared.view.View.{View}
 use Rattle.turn_bus.specs.ActionNumbers.{IsNumberOf}
@@ -31,14 +31,6 @@ Table = State Slot View
 abbrev pub Hand : Type 0
 Hand = Me Slot View
 
--- the bus of a job at the boundary of a slot, which keeps this
-abbrev pub IsBusAt : JobValue → Bool → ℕ → BusSide → Type 0
-IsBusAt job keeps turn b = IsBusPart job turn b × (b.keeps ≡ keeps)
-
-abbrev pub Absent : ℕ → List ℕ → Type 0
-Absent x [] = Unit {0}
-Absent x (y ∷ ys) = (x ≢ y) × Absent x ys
-
 -- the word of the record of a slot
 abbrev pub word_of_slot : SlotPlan → ℕ → ℕ
 word_of_slot plan slot = 1 + slot % gap_of plan
@@ -46,6 +38,10 @@ word_of_slot plan slot = 1 + slot % gap_of plan
 -- the record of a slot stands in its word
 abbrev pub IsStored : JobValue → ℕ → List ℕ → Type 0
 IsStored job slot words = IsNumberOf (slice_index words (word_of_slot (plan_of job) slot)) (record_at job slot)
+
+-- what a seat knows, of that which any seat of a shared bus does
+abbrev pub knowing : View → Knowing
+knowing v = record { job = v.job; keeps = v.keeps; number = v.number; count = v.count; made = v.made; joined = v.joined }
 
 -- ---- the rule
 
@@ -199,7 +195,5 @@ pub record Opening (v : View) : Type 0 where
   pub room : v.made < v.job.shape.cores
 
 -- after the last slot, with all other seats joined into it
-pub record Ending (v : View) : Type 0 where
-  pub zero : v.number ≡ 0
-  pub over : v.count ≡ v.job.shape.slots
-  pub all_joined : (number : ℕ) → 0 < number → number < v.made → ¬ Absent number v.joined
+abbrev pub Ending : View → Type 0
+Ending v = HasAll (knowing v)

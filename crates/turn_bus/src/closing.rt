@@ -2,7 +2,8 @@
 ghost use Rattle.std.specs.Prelude.{◌≡◌, Bool, ℕ};
 ghost use Rattle.pmsi_model.specs.Job.{JobValue};
 ghost use Rattle.pmsi_model.specs.Parts.{IsBusPart};
-ghost use Rattle.turn_bus.specs.Rule.{IsBusAt, Ending, with_joined};
+ghost use Rattle.turn_bus.specs.Rule.{Ending, with_joined};
+ghost use Rattle.turn_bus.specs.Sharing.{IsBusAt};
 ghost use Rattle.turn_bus.specs.Seats.{AreSeats, CanClose, IsOwn, view_of};
 
 use crate::rule::Closes;

@@ -3,7 +3,8 @@ ghost use Rattle.std.specs.Prelude.{◌≡◌, ◌+◌, [], IfOk};
 ghost use Rattle.pmsi_model.specs.Job.{IsJob};
 ghost use Rattle.pmsi_model.specs.Parts.{IsBusPart};
 ghost use Rattle.pmsi_model.specs.Slots.{gap_of, plan_of};
-ghost use Rattle.turn_bus.specs.Rule.{IsBusAt, Opening, first_of, one_more, new_seat};
+ghost use Rattle.turn_bus.specs.Rule.{Opening, first_of, one_more, new_seat};
+ghost use Rattle.turn_bus.specs.Sharing.{IsBusAt};
 ghost use Rattle.turn_bus.specs.Seats.{AreSeats, IsOwn, view_of};
 
 use crate::about::{About, copy_of};

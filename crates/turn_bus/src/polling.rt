@@ -4,7 +4,8 @@ ghost use Rattle.pmsi_model.specs.Job.{IsJob};
 ghost use Rattle.pmsi_model.specs.Run.{record_at};
 ghost use Rattle.pmsi_model.specs.Slots.{gap_of, plan_of};
 ghost use Rattle.turn_bus.specs.Answers.{Answers, CanPoll, HasActed, IsReady, OwnsSlot, SameSeat};
-ghost use Rattle.turn_bus.specs.Rule.{IsBusAt, IsHolding, Rests, has_acted, has_bus, has_stored, word_of_slot};
+ghost use Rattle.turn_bus.specs.Rule.{IsHolding, Rests, has_acted, has_bus, has_stored, word_of_slot};
+ghost use Rattle.turn_bus.specs.Sharing.{IsBusAt};
 ghost use Rattle.turn_bus.specs.Seats.{IsOwn, view_of};
 
 use crate::numbers::{action_of, number_of};

@@ -1,4 +1,4 @@
-use Rattle.std.proofs.Common.{rules, arith, ◌≡◌, Bool, sym, ap, ◌∙◌, subst}
+use Rattle.std.proofs.Common.{rules, ◌≡◌, Bool, sym, ap, ◌∙◌, subst}
 use Rattle.turn_bus.specs.Seats.{AreSeats}
 use Rattle.sim_serial.specs.Cores.{AreParts, AreWith, CoresKeep}
 use Rattle.sim_serial.specs.Sims.{Keeps, sim_with}

@@ -1,7 +1,8 @@
 use Rattle.std.proofs.Common.{rules, ◌≡◌, ◌+◌, ℕ, List, [], ◌∷◌, Some, length, slice_index, sym, subst}
 use Rattle.atomic_table.specs.Table.{opening}
 use Rattle.pmsi_model.specs.Slots.{gap_of, plan_of}
-use Rattle.turn_bus.specs.Rule.{Slot, IsBusAt, holds, first_of}
+use Rattle.turn_bus.specs.Rule.{Slot, holds, first_of}
+use Rattle.turn_bus.specs.Sharing.{IsBusAt}
 use Rattle.turn_bus.proofs.SeatLists.{opens}
 use Rattle.turn_bus.proofs.opening.lay.Goals as goal
 

@@ -1,7 +1,7 @@
 use Rattle.std.proofs.Common.{◌≡◌, Some, sym, ◌∙◌, subst}
 use mathlib.Core.Option.{some-injective}
 use Rattle.pmsi_model.specs.Shared.{BusSide}
-use Rattle.bus_lock.specs.Rule.{IsBusAt}
+use Rattle.turn_bus.specs.Sharing.{IsBusAt}
 use Rattle.bus_lock.specs.Seats.{view_of}
 use Rattle.bus_lock.proofs.SeatLists.{closes}
 use Rattle.bus_lock.proofs.seat.SharedBus.end.Goals as goal

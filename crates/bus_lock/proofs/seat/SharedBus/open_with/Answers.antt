@@ -1,6 +1,8 @@
-use Rattle.std.proofs.Common.{rules, ◌≡◌, ◌+◌, ◌++◌, [], ◌∷◌, set, subst, sym}
-use Rattle.bus_lock.specs.Seats.{Seated}
-use Rattle.bus_lock.proofs.Seatings.{seated_more}
+use Rattle.std.proofs.Common.{rules, ap, ◌≡◌, ◌+◌, ◌++◌, [], ◌∷◌, set, subst, sym}
+use Rattle.bus_lock.specs.Rule.{knowing}
+use Rattle.bus_lock.specs.Seats.{seating}
+use Rattle.turn_bus.specs.Sharing.{Seated, stage}
+use Rattle.turn_bus.proofs.Exports.{seated_more}
 use Rattle.bus_lock.proofs.seat.SharedBus.open_with.Goals as goal
 
 pub loop-preserved : goal.loop-preserved
@@ -15,6 +17,8 @@ loop-preserved c =
     record {
       long = search rules;
       room = search rules;
-      seated = subst (Seated bus about.job about.keeps 0 (c.loop.counter + 1)) (sym e)
-          (seated_more bus about.job about.keeps c.loop.counter xs root next seat c.loop.invariant.long (search rules) c.loop.invariant.seated c.index_mut.ensures.value c.seat-seat.ensures.own c.seat-seat.ensures.views);
+      seated = subst (Seated (seating bus) (stage about.job about.keeps 0 (c.loop.counter + 1))) (sym e)
+          (seated_more (seating bus) about.job about.keeps c.loop.counter xs root next seat c.loop.invariant.long (search rules)
+          c.loop.invariant.seated c.index_mut.ensures.value c.seat-seat.ensures.own
+          (ap knowing c.seat-seat.ensures.views.0, ap knowing c.seat-seat.ensures.views.1));
     }

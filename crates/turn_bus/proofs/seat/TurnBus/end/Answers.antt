@@ -1,6 +1,7 @@
 use Rattle.std.proofs.Common.{◌≡◌, Some, sym, ap, ◌∙◌, subst}
 use mathlib.Core.Option.{some-injective}
-use Rattle.turn_bus.specs.Rule.{BusBox, IsBusAt}
+use Rattle.turn_bus.specs.Rule.{BusBox}
+use Rattle.turn_bus.specs.Sharing.{IsBusAt}
 use Rattle.turn_bus.specs.Seats.{view_of}
 use Rattle.turn_bus.proofs.SeatLists.{closes}
 use Rattle.turn_bus.proofs.seat.TurnBus.end.Goals as goal

@@ -1,5 +1,7 @@
-use Rattle.std.proofs.Common.{rules, ◌≡◌, ℕ, ◌+◌, ◌++◌, [], ◌∷◌, set, subst, sym, ◌∙◌}
-use Rattle.turn_bus.specs.Seats.{Seated}
+use Rattle.std.proofs.Common.{rules, ap, ◌≡◌, ℕ, ◌+◌, ◌++◌, [], ◌∷◌, set, subst, sym, ◌∙◌}
+use Rattle.turn_bus.specs.Rule.{knowing}
+use Rattle.turn_bus.specs.Seats.{seating}
+use Rattle.turn_bus.specs.Sharing.{Seated, stage}
 use Rattle.turn_bus.proofs.Seatings.{seated_more}
 use Rattle.turn_bus.proofs.seat.TurnBus.open_with.Goals as goal
 
@@ -15,8 +17,10 @@ loop-preserved c =
     record {
       long = search rules;
       room = search rules;
-      seated = subst (Seated bus about.job about.keeps 0 (c.loop.counter + 1)) (sym e)
-          (seated_more bus about.job about.keeps c.loop.counter xs root next seat c.loop.invariant.long (search rules) c.loop.invariant.seated c.index_mut.ensures.value c.seat-seat.ensures.own c.seat-seat.ensures.views);
+      seated = subst (Seated (seating bus) (stage about.job about.keeps 0 (c.loop.counter + 1))) (sym e)
+          (seated_more (seating bus) about.job about.keeps c.loop.counter xs root next seat c.loop.invariant.long (search rules)
+          c.loop.invariant.seated c.index_mut.ensures.value c.seat-seat.ensures.own
+          (ap knowing c.seat-seat.ensures.views.0, ap knowing c.seat-seat.ensures.views.1));
     }
 
 pub returns : goal.returns
@@ -26,5 +30,5 @@ returns c =
     record {
       within = c.requires.0;
       all = c.loop.invariant.long ∙ all;
-      seated = subst (λ (n : ℕ). Seated c.in_ok-shared.shared about.job about.keeps 0 n c.loop.seats.items) all c.loop.invariant.seated;
+      seated = subst (λ (n : ℕ). Seated (seating c.in_ok-shared.shared) (stage about.job about.keeps 0 n) c.loop.seats.items) all c.loop.invariant.seated;
     }
