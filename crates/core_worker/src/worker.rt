@@ -1,5 +1,5 @@
 //! The work on members.
-ghost use Rattle.std.specs.Prelude.{◌≡◌, ◌≢◌, ℕ, ◌<◌, Bool, true, false};
+ghost use Rattle.std.specs.Prelude.{◌≡◌, ◌≢◌, ℕ, ◌<◌, false};
 ghost use Rattle.pmsi_model.specs.Job.{JobValue};
 ghost use Rattle.core_unit.specs.Parts.{IsPartAfter};
 ghost use Rattle.turn_bus.specs.Answers.{IsIn, IsReady};

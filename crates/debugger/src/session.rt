@@ -1,9 +1,8 @@
 //! A machine that commands move and print.
 
-ghost use Rattle.std.specs.Prelude.{◌≡◌, ◌++◌, ◌<◌, ℕ, [], List, true, IfOk, OnOk};
+ghost use Rattle.std.specs.Prelude.{◌≡◌, ◌++◌, ◌<◌, ℕ, [], true, IfOk, OnOk};
 ghost use Rattle.std.specs.List.{All};
 ghost use Rattle.pmsi_model.specs.Job.{JobValue};
-ghost use Rattle.pmsi_model.specs.Run.{machine_at};
 ghost use Rattle.core_unit.specs.State.{core_of};
 ghost use Rattle.sim_serial.specs.Sims.{IsSimOf, shape_of};
 ghost use Rattle.script_text.specs.Output.{Place, after, output_from, printed, regs_lines};

@@ -1,7 +1,6 @@
 //! What is still to be printed of each core, and the pieces of a slot.
 ghost use Rattle.std.specs.Prelude.{◌≡◌, ◌==◌, ◌++◌, map, take, OnOk};
 ghost use Rattle.std.specs.List.{flat_map, prefix_len};
-ghost use Rattle.pmsi_model.specs.Lines.{row_line, touch_line};
 ghost use Rattle.listing.specs.Rests.{fills, phase_count, without_rows, without_touches};
 ghost use Rattle.listing.specs.Pieces.{piece_text, past_piece};
 

@@ -1,10 +1,9 @@
 //! The answer to a call of `tool`, before anything is written, and what both calls share of theirs.
-ghost use Rattle.std.specs.Prelude.{◌≡◌, true, Some, List, map, string_bytes, IfOk, IfErr};
+ghost use Rattle.std.specs.Prelude.{◌≡◌, true, Some, map, string_bytes, IfOk, IfErr};
 ghost use Rattle.pmsi_model.specs.Geometry.{CanKeep};
 ghost use Rattle.pmsi_model.specs.Listing.{listing_of};
-ghost use Rattle.image_file.specs.Format.{image_bytes};
 ghost use Rattle.sim_serial.specs.Sims.{IsSimOf, Keeps};
-ghost use Rattle.tool_words.specs.Meaning.{AskedValue, IsAllowed, run, trace, asm, dis, image, meaning, value_of};
+ghost use Rattle.tool_words.specs.Meaning.{IsAllowed, run, trace, asm, dis, image, meaning, value_of};
 ghost use Rattle.tool_files.specs.Course.{actions_text, keeps_actions};
 ghost use Rattle.tool_files.specs.Stops.{files_call};
 ghost use Rattle.pmsi_tool.specs.Calls.{serves, tool_call};

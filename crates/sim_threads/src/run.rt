@@ -1,5 +1,5 @@
 //! The run of a job on threads.
-ghost use Rattle.std.specs.Prelude.{◌≡◌, ◌≤◌, ◌<◌, IfOk};
+ghost use Rattle.std.specs.Prelude.{◌≤◌, ◌<◌, IfOk};
 ghost use Rattle.pmsi_model.specs.declared.limits.TheConstants.{MAX_WORKERS};
 ghost use Rattle.pmsi_model.specs.Geometry.{CanKeep};
 ghost use Rattle.sim_serial.specs.Sims.{IsSimOf, Keeps};

@@ -1,5 +1,5 @@
 //! Reading the files of a command, in order.
-ghost use Rattle.std.specs.Prelude.{◌≡◌, ◌≢◌, ℕ, ◌≤◌, [], length, true, IfOk, IfErr};
+ghost use Rattle.std.specs.Prelude.{◌≡◌, ◌≢◌, ◌≤◌, [], length, true, IfOk, IfErr};
 ghost use Rattle.pmsi_model.specs.declared.limits.TheConstants.{MAX_CORES, MAX_FILE_BYTES, MAX_TEXT_WORDS};
 ghost use Rattle.pmsi_model.specs.Geometry.{CanKeep, IsGeometry, most_touches};
 ghost use Rattle.std.specs.List.{All};

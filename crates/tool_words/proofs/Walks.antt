@@ -1,6 +1,6 @@
 -- How clap's walk goes over canonical words.
-use Rattle.std.proofs.Common.{◌≡◌, ◌∙◌, ap, ap₂, refl, List, [], ◌∷◌, ℕ, ◌+◌, Bool, true, false}
-use Rattle.std.specs.Prelude.{min, ◌&&◌}
+use Rattle.std.proofs.Common.{◌≡◌, ◌∙◌, ap, ap₂, refl, List, [], ◌∷◌, ℕ, ◌+◌, true, false}
+use Rattle.std.specs.Prelude.{min}
 use Rattle.clap.specs.Lexer.{usize_max}
 use Rattle.std.specs.Prelude.{Option, Some, None, ◌==◌, fold, is_some}
 use Rattle.clap.specs.Lexer.{long_of, short_of}

@@ -1,5 +1,5 @@
 //! How a shared bus is taken back.
-ghost use Rattle.std.specs.Prelude.{◌≡◌, Bool, ℕ};
+ghost use Rattle.std.specs.Prelude.{◌≡◌, Bool};
 ghost use Rattle.pmsi_model.specs.Job.{JobValue};
 ghost use Rattle.pmsi_model.specs.Parts.{IsBusPart};
 ghost use Rattle.turn_bus.specs.Rule.{Ending, with_joined};

@@ -5,8 +5,8 @@ use Rattle.bus_core.proofs.Exports.{records_length}
 use Rattle.tool_files.specs.Course.{keeps_actions}
 use Rattle.pmsi_tool.proofs.answer.actions_of.Goals as goal
 
-pub write_actions-requires-clause-slots : goal.write_actions-requires-clause-slots
-write_actions-requires-clause-slots c =
+pub write_actions-requires : goal.write_actions-requires-clause-slots
+write_actions-requires c =
     let job = c.args._job.now in
     let all : c.trace.result.now ≡ records job job.shape.slots =
     c.trace.ensures.of_job job job.shape.slots (c.bus.ensures.part job job.shape.slots c.requires.machine) (c.bus.ensures.keeps keeps_actions c.requires.keeps) in
