@@ -161,6 +161,18 @@ impl CacheArray {
         found.place
     }
 
+    /// Makes a line the most recently used.
+    pub fn touch(&mut self, line: u32)
+        requires { Holds line self.old.lines }
+        ensures after { self.new ≡ record self.old { lines = touched line self.old.lines } }
+        ensures held { held_of self.new.lines ≡ touched_line (mode_of line (held_of self.old.lines)) line (held_of self.old.lines) }
+        ensures words { (k : ℕ) → words_of k self.new.lines ≡ words_of k self.old.lines }
+        ensures ways { (k : ℕ) → way_of k self.new.lines ≡ way_of k self.old.lines }
+    {
+        let place = self.held_place(line);
+        self.touch_at(place, line);
+    }
+
     /// Makes the line that stands at a place the most recently used.
     pub fn touch_at(&mut self, place: usize, line: u32)
         requires { place_of line self.old ≡ Some place }
@@ -243,6 +255,23 @@ impl CacheArray {
     {
         let word = address::word_of(&self.shape, address);
         self.entries[place].cached.words.get(word)
+    }
+
+    /// Writes the word at an address. The line keeps its mode and its place.
+    pub fn write_word(&mut self, address: u32, word: u32)
+        requires aligned { address % 4 ≡ 0 }
+        requires held { Holds (line_of self.old.shape address) self.old.lines }
+        ensures after { self.new ≡ record self.old {
+          lines = with_word (line_of self.old.shape address) (word_place self.old.shape address) word self.old.lines;
+        } }
+        ensures held { held_of self.new.lines ≡ held_of self.old.lines }
+        ensures words { (k : ℕ) → words_of k self.new.lines ≡ (if k == line_of self.old.shape address
+            then slice_set (words_of (line_of self.old.shape address) self.old.lines) (word_place self.old.shape address) word
+            else words_of k self.old.lines) }
+        ensures ways { (k : ℕ) → way_of k self.new.lines ≡ way_of k self.old.lines }
+    {
+        let place = self.held_place(address::line_of(&self.shape, address));
+        self.write_word_at(place, address, word);
     }
 
     /// Writes the word at an address, whose line stands at this place. The line keeps its mode and its place.
