@@ -164,13 +164,6 @@ impl Pending {
         self.write_backs.is_waiting()
     }
 
-    /// Whether this line waits to be written back.
-    pub fn has_line(&self, line: u32) -> bool
-        ensures { result ≡ has_line line self.now.write_backs }
-    {
-        self.write_backs.has(line)
-    }
-
     /// The line that is written back next.
     pub fn first(&self) -> Option<u32>
         ensures { result ≡ first_in self.now.write_backs }

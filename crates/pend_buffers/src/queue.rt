@@ -60,13 +60,6 @@ impl LineQueue {
         !self.items.is_empty()
     }
 
-    /// Whether the line is in the queue.
-    pub fn has(&self, line: u32) -> bool
-        ensures { result ≡ has_line line self.now }
-    {
-        self.items.as_slice().contains(&line)
-    }
-
     /// The line that has been in the queue longest; None where there is none.
     pub fn first(&self) -> Option<u32>
         ensures { result ≡ first_in self.now }
