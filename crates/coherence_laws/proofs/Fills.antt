@@ -17,7 +17,7 @@ use Rattle.pmsi_model.proofs.Held.{mode_to_front, once_to_front, fewer_without, 
 use Rattle.pmsi_model.proofs.WriteBacks.{line_more, once_more}
 use Rattle.pmsi_model.proofs.Requests.{request_less, has_request_less, has_request_else}
 use Rattle.pmsi_model.proofs.Cases.{by_test}
-use Rattle.coherence_laws.proofs.Fine.{IsFine, no_victim}
+use Rattle.coherence_laws.proofs.Fine.{IsFine, no_victim, unmoved, relined}
 
 line_demanded : (l line : ℕ) (backs : List ℕ) (behind : Bool)
     → has_line l (append_demanded Write behind line backs) ≡ (has_line l backs || (behind && line == l))
@@ -42,6 +42,12 @@ filled_within shape l line mode held within room =
     (λ other. grind (arith, fewer_without shape l line held)) in
     grind (arith, count_to_front shape l line mode held, h)
 
+-- other lines are held as before
+pub filled_else : (kind : Kind) (behind : Bool) (line l : ℕ) (held : List (ℕ × Mode)) → l ≢ line → mode_of l (filled_line kind behind line held) ≡ mode_of l held
+filled_else Read true line l held other = refl
+filled_else Read false line l held other = grind (arith, mode_to_front l line Shared held)
+filled_else Write behind line l held other = grind (arith, mode_to_front l line Modified held)
+
 fine_fill_write : (shape : Geometry) (slot : ℕ) (posted : List Request) (c : ℕ) (held : List (ℕ × Mode)) (want : Want) (backs : List ℕ)
     (status : Status) (behind : Bool)
     → IsFine shape slot posted c held (Some want) backs status → RequestsOnce posted → is_some want.post ≡ true → want.kind ≡ Write
@@ -62,24 +68,6 @@ fine_fill_write shape slot posted c held want backs status behind f once post wr
       want_fine = λ v none. absurd (grind arith);
     }
 
--- a read leaves a copy
-fine_fill_shared : (shape : Geometry) (slot : ℕ) (posted : List Request) (c : ℕ) (held : List (ℕ × Mode)) (want : Want) (backs : List ℕ) (status : Status)
-    → IsFine shape slot posted c held (Some want) backs status → RequestsOnce posted → is_some want.post ≡ true → want.kind ≡ Read
-    → IsFine shape slot (removed c posted) c (to_front want.line Shared held) None backs status
-fine_fill_shared shape slot posted c held want backs status f once post read =
-    let w = f.want_fine want refl in let free = no_victim shape slot held backs status want w post in
-    let mine : request_of c posted ≡ Some (record { core = c; line = want.line; kind = want.kind }) = grind (arith, f.posted_wants) in
-    let unheld : mode_of want.line held ≡ None = w.read_unheld read in record {
-      held_once = once_to_front want.line Shared held f.held_once;
-      held_within = λ l. filled_within shape l want.line Shared held (f.held_within l) (grind (arith, w.has_room));
-      posted_wants = grind (arith, request_less c c posted);
-      demanded_waits = λ l owned asked. grind (arith, mode_to_front l want.line Shared held, has_request_less l c posted, f.demanded_waits l);
-      back_once = f.back_once;
-      back_owned = λ l has. grind (arith, mode_to_front l want.line Shared held, f.back_owned l has);
-      back_due = λ l has. grind (arith, has_request_else l c posted (record { core = c; line = want.line; kind = want.kind }) once mine, f.back_due l has, f.back_owned l has);
-      want_fine = λ v none. absurd (grind arith);
-    }
-
 -- a read leaves none
 fine_fill_none : (shape : Geometry) (slot : ℕ) (posted : List Request) (c : ℕ) (held : List (ℕ × Mode)) (want : Want) (backs : List ℕ) (status : Status)
     → IsFine shape slot posted c held (Some want) backs status → RequestsOnce posted → is_some want.post ≡ true → want.kind ≡ Read
@@ -87,16 +75,22 @@ fine_fill_none : (shape : Geometry) (slot : ℕ) (posted : List Request) (c : �
 fine_fill_none shape slot posted c held want backs status f once post read =
     let w = f.want_fine want refl in let free = no_victim shape slot held backs status want w post in
     let mine : request_of c posted ≡ Some (record { core = c; line = want.line; kind = want.kind }) = grind (arith, f.posted_wants) in
-    let unheld : mode_of want.line held ≡ None = w.read_unheld read in record {
-      held_once = f.held_once;
-      held_within = f.held_within;
-      posted_wants = grind (arith, request_less c c posted);
-      demanded_waits = λ l owned asked. f.demanded_waits l owned (has_request_less l c posted asked);
-      back_once = f.back_once;
-      back_owned = f.back_owned;
-      back_due = λ l has. grind (arith, has_request_else l c posted (record { core = c; line = want.line; kind = want.kind }) once mine, f.back_due l has, f.back_owned l has);
-      want_fine = λ v none. absurd (grind arith);
-    }
+    let unheld : mode_of want.line held ≡ None = w.read_unheld read in
+    unmoved f (grind (arith, request_less c c posted)) (λ l owned asked. f.demanded_waits l owned (has_request_less l c posted asked))
+    (λ l has. grind (arith, has_request_else l c posted (record { core = c; line = want.line; kind = want.kind }) once mine, f.back_due l has, f.back_owned l has))
+    (λ v none. absurd (grind arith))
+
+-- a read leaves a copy
+fine_fill_shared : (shape : Geometry) (slot : ℕ) (posted : List Request) (c : ℕ) (held : List (ℕ × Mode)) (want : Want) (backs : List ℕ) (status : Status)
+    → IsFine shape slot posted c held (Some want) backs status → RequestsOnce posted → is_some want.post ≡ true → want.kind ≡ Read
+    → IsFine shape slot (removed c posted) c (to_front want.line Shared held) None backs status
+fine_fill_shared shape slot posted c held want backs status f once post read =
+    let w = f.want_fine want refl in
+    let unheld : mode_of want.line held ≡ None = w.read_unheld read in
+    relined (fine_fill_none shape slot posted c held want backs status f once post read) (once_to_front want.line Shared held f.held_once)
+    (λ l. filled_within shape l want.line Shared held (f.held_within l) (grind (arith, w.has_room)))
+    (λ l owned. grind (arith, mode_to_front l want.line Shared held)) (λ l has. grind (arith, mode_to_front l want.line Shared held, f.back_owned l has))
+    (λ v none. absurd (grind arith))
 
 pub fine_fill : (shape : Geometry) (slot : ℕ) (posted : List Request) (c : ℕ) (held : List (ℕ × Mode)) (want : Want) (backs : List ℕ) (status : Status) (kind : Kind)
     → IsFine shape slot posted c held (Some want) backs status → RequestsOnce posted → is_some want.post ≡ true → want.kind ≡ kind

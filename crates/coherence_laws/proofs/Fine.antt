@@ -55,6 +55,65 @@ pub no_victim : (shape : Geometry) (slot : ℕ) (held : List (ℕ × Mode)) (bac
     → IsWantFine shape slot held backs status want → is_some want.post ≡ true → want.victim ≡ None
 no_victim shape slot held backs status want w posted = none_by want.victim (λ n is. grind (arith, w.victim_unposted n is))
 
+-- ---- kinds of change
+
+-- the held lines and the queue stay; the requests, the want, the status or the slot are others
+pub unmoved : {shape : Geometry} {slot later : ℕ} {posted asked : List Request} {c : ℕ} {held : List (ℕ × Mode)} {want next : Option Want} {backs : List ℕ}
+    {status after : Status}
+    → IsFine shape slot posted c held want backs status → request_of c asked ≡ posted_request c next
+    → ((line : ℕ) → mode_of line held ≡ Some Modified → has_request line asked ≡ true → has_line line backs ≡ true)
+    → ((line : ℕ) → has_line line backs ≡ true → (victim_in next ≡ Some line) ⊎ (has_request line asked ≡ true))
+    → ((w : Want) → next ≡ Some w → IsWantFine shape later held backs after w)
+    → IsFine shape later asked c held next backs after
+unmoved f wants waits due fine = record {
+  held_once = f.held_once;
+  held_within = f.held_within;
+  posted_wants = wants;
+  demanded_waits = waits;
+  back_once = f.back_once;
+  back_owned = f.back_owned;
+  back_due = due;
+  want_fine = fine;
+}
+
+-- the queue and the requests stay; the held lines are others, and each line of the queue is Modified yet
+pub relined : {shape : Geometry} {slot : ℕ} {posted : List Request} {c : ℕ} {held after : List (ℕ × Mode)} {want : Option Want} {backs : List ℕ} {status : Status}
+    → IsFine shape slot posted c held want backs status → HoldsEachOnce after
+    → ((line : ℕ) → length (set_lines shape line after) ≤ shape.ways)
+    → ((line : ℕ) → mode_of line after ≡ Some Modified → mode_of line held ≡ Some Modified)
+    → ((line : ℕ) → has_line line backs ≡ true → mode_of line after ≡ Some Modified)
+    → ((w : Want) → want ≡ Some w → IsWantFine shape slot after backs status w)
+    → IsFine shape slot posted c after want backs status
+relined f once within fewer owned fine = record {
+  held_once = once;
+  held_within = within;
+  posted_wants = f.posted_wants;
+  demanded_waits = λ l modified. f.demanded_waits l (fewer l modified);
+  back_once = f.back_once;
+  back_owned = owned;
+  back_due = f.back_due;
+  want_fine = fine;
+}
+
+-- the held lines stay, and this one, which is Modified, goes into the queue
+pub requeued : {shape : Geometry} {slot : ℕ} {posted asked : List Request} {c : ℕ} {held : List (ℕ × Mode)} {want next : Option Want} {backs : List ℕ}
+    {status : Status} (line : ℕ)
+    → IsFine shape slot posted c held want backs status → mode_of line held ≡ Some Modified → request_of c asked ≡ posted_request c next
+    → ((l : ℕ) → mode_of l held ≡ Some Modified → has_request l asked ≡ true → has_line l (append_once line backs) ≡ true)
+    → ((l : ℕ) → has_line l (append_once line backs) ≡ true → (victim_in next ≡ Some l) ⊎ (has_request l asked ≡ true))
+    → ((w : Want) → next ≡ Some w → IsWantFine shape slot held (append_once line backs) status w)
+    → IsFine shape slot asked c held next (append_once line backs) status
+requeued {backs = backs} line f owner wants waits due fine = record {
+  held_once = f.held_once;
+  held_within = f.held_within;
+  posted_wants = wants;
+  demanded_waits = waits;
+  back_once = once_append_once line backs f.back_once;
+  back_owned = λ l has. grind (arith, line_append_once l line backs, f.back_owned l, owner);
+  back_due = due;
+  want_fine = fine;
+}
+
 -- ---- a later slot
 
 posted_later : (slot issue : ℕ) (post : Option ℕ) → IsPostedBy slot issue post → IsPostedBy (slot + 1) issue post
@@ -79,47 +138,26 @@ want_later shape slot held backs status want w = record {
 
 pub fine_later : (shape : Geometry) (slot : ℕ) (posted : List Request) (c : ℕ) (held : List (ℕ × Mode)) (want : Option Want) (backs : List ℕ) (status : Status)
     → IsFine shape slot posted c held want backs status → IsFine shape (slot + 1) posted c held want backs status
-fine_later shape slot posted c held want backs status f = record {
-  held_once = f.held_once;
-  held_within = f.held_within;
-  posted_wants = f.posted_wants;
-  demanded_waits = f.demanded_waits;
-  back_once = f.back_once;
-  back_owned = f.back_owned;
-  back_due = f.back_due;
-  want_fine = λ w is. want_later shape slot held backs status w (f.want_fine w is);
-}
+fine_later shape slot posted c held want backs status f =
+    unmoved f f.posted_wants f.demanded_waits f.back_due (λ w is. want_later shape slot held backs status w (f.want_fine w is))
 
 -- ---- a core with no want takes an instruction
 
 -- no instruction that asks memory: without a want, the status is free
 pub fine_status : (shape : Geometry) (slot : ℕ) (posted : List Request) (c : ℕ) (held : List (ℕ × Mode)) (backs : List ℕ) (status other : Status)
     → IsFine shape slot posted c held None backs status → IsFine shape slot posted c held None backs other
-fine_status shape slot posted c held backs status other f = record {
-  held_once = f.held_once;
-  held_within = f.held_within;
-  posted_wants = f.posted_wants;
-  demanded_waits = f.demanded_waits;
-  back_once = f.back_once;
-  back_owned = f.back_owned;
-  back_due = f.back_due;
-  want_fine = λ w is. absurd (grind arith);
-}
+fine_status shape slot posted c held backs status other f =
+    unmoved f f.posted_wants f.demanded_waits f.back_due (λ w is. absurd (grind arith))
 
 -- a held line goes to the front
 pub fine_front : (shape : Geometry) (slot : ℕ) (posted : List Request) (c : ℕ) (held : List (ℕ × Mode)) (backs : List ℕ) (status : Status) (line : ℕ) (mode : Mode)
     → IsFine shape slot posted c held None backs status → mode_of line held ≡ Some mode
     → IsFine shape slot posted c (to_front line mode held) None backs status
-fine_front shape slot posted c held backs status line mode f is = record {
-  held_once = once_to_front line mode held f.held_once;
-  held_within = λ l. grind (arith, count_to_front shape l line mode held, fewer_without shape l line held, room_without shape l line held, f.held_within l);
-  posted_wants = f.posted_wants;
-  demanded_waits = λ l owned. f.demanded_waits l (grind (arith, mode_to_front l line mode held));
-  back_once = f.back_once;
-  back_owned = λ l has. grind (arith, mode_to_front l line mode held, f.back_owned l has);
-  back_due = f.back_due;
-  want_fine = λ w none. absurd (grind arith);
-}
+fine_front shape slot posted c held backs status line mode f is =
+    relined f (once_to_front line mode held f.held_once)
+    (λ l. grind (arith, count_to_front shape l line mode held, fewer_without shape l line held, room_without shape l line held, f.held_within l))
+    (λ l owned. grind (arith, mode_to_front l line mode held)) (λ l has. grind (arith, mode_to_front l line mode held, f.back_owned l has))
+    (λ w none. absurd (grind arith))
 
 pub fine_touched : (shape : Geometry) (slot : ℕ) (posted : List Request) (c : ℕ) (held : List (ℕ × Mode)) (backs : List ℕ) (status : Status)
     (line : ℕ) (mode : Option Mode)
@@ -159,17 +197,11 @@ missed_none : (shape : Geometry) (slot : ℕ) (posted : List Request) (c : ℕ) 
     → IsFine shape (slot + 1) posted c held None backs status → status ≡ Running → permits kind (mode_of line held) ≡ false → 1 ≤ shape.ways
     → evicted shape line held ≡ None
     → IsFine shape (slot + 1) posted c held (Some (new_want line kind slot None access)) backs status
-missed_none shape slot posted c held backs status line kind access f runs denied some gone = record {
-  held_once = f.held_once;
-  held_within = f.held_within;
-  posted_wants = f.posted_wants;
-  demanded_waits = f.demanded_waits;
-  back_once = f.back_once;
-  back_owned = f.back_owned;
-  back_due = λ l has. grind (arith, f.back_due l has);
-  want_fine = λ w is. subst (IsWantFine shape (slot + 1) held backs status) (grind arith)
-      (want_new shape slot line kind access None held backs status denied runs (λ v none. absurd (grind arith)) (grind (arith, evicted_none shape line held some (f.held_within line) gone)));
-}
+missed_none shape slot posted c held backs status line kind access f runs denied some gone =
+    unmoved f f.posted_wants f.demanded_waits (λ l has. grind (arith, f.back_due l has))
+    (λ w is. subst (IsWantFine shape (slot + 1) held backs status) (grind arith)
+    (want_new shape slot line kind access None held backs status denied runs (λ v none. absurd (grind arith))
+    (grind (arith, evicted_none shape line held some (f.held_within line) gone))))
 
 -- a shared line is dropped
 missed_shared : (shape : Geometry) (slot : ℕ) (posted : List Request) (c : ℕ) (held : List (ℕ × Mode)) (backs : List ℕ) (status : Status)
@@ -178,18 +210,14 @@ missed_shared : (shape : Geometry) (slot : ℕ) (posted : List Request) (c : ℕ
     → evicted shape line held ≡ Some (gone, Shared)
     → IsFine shape (slot + 1) posted c (without gone held) (Some (new_want line kind slot None access)) backs status
 missed_shared shape slot posted c held backs status line kind access gone f runs denied is =
-    let e = evicted_held shape line held (gone, Shared) f.held_once is in record {
-      held_once = once_without gone held f.held_once;
-      held_within = λ l. grind (arith, fewer_without shape l gone held, f.held_within l);
-      posted_wants = f.posted_wants;
-      demanded_waits = λ l owned. f.demanded_waits l (grind (arith, mode_without l gone held));
-      back_once = f.back_once;
-      back_owned = λ l has. grind (arith, mode_without l gone held, f.back_owned l has, e.0);
-      back_due = λ l has. grind (arith, f.back_due l has);
-      want_fine = λ w same. subst (IsWantFine shape (slot + 1) (without gone held) backs status) (grind arith)
-          (want_new shape slot line kind access None (without gone held) backs status (grind (arith, mode_without line gone held, e.2)) runs (λ v none. absurd (grind arith))
-          (inr (inl (grind (arith, room_without shape line gone held, f.held_within line, e.0, e.1)))));
-    }
+    let e = evicted_held shape line held (gone, Shared) f.held_once is in
+    let dropped : IsFine shape (slot + 1) posted c (without gone held) None backs status =
+    relined f (once_without gone held f.held_once) (λ l. grind (arith, fewer_without shape l gone held, f.held_within l))
+    (λ l owned. grind (arith, mode_without l gone held)) (λ l has. grind (arith, mode_without l gone held, f.back_owned l has, e.0)) (λ w none. absurd (grind arith)) in
+    unmoved dropped f.posted_wants dropped.demanded_waits (λ l has. grind (arith, f.back_due l has))
+    (λ w same. subst (IsWantFine shape (slot + 1) (without gone held) backs status) (grind arith)
+    (want_new shape slot line kind access None (without gone held) backs status (grind (arith, mode_without line gone held, e.2)) runs (λ v none. absurd (grind arith))
+    (inr (inl (grind (arith, room_without shape line gone held, f.held_within line, e.0, e.1))))))
 
 -- a modified line becomes the victim
 missed_modified : (shape : Geometry) (slot : ℕ) (posted : List Request) (c : ℕ) (held : List (ℕ × Mode)) (backs : List ℕ) (status : Status)
@@ -198,19 +226,13 @@ missed_modified : (shape : Geometry) (slot : ℕ) (posted : List Request) (c : �
     → evicted shape line held ≡ Some (gone, Modified)
     → IsFine shape (slot + 1) posted c held (Some (new_want line kind slot (Some gone) access)) (append_once gone backs) status
 missed_modified shape slot posted c held backs status line kind access gone f runs denied is =
-    let e = evicted_held shape line held (gone, Modified) f.held_once is in record {
-      held_once = f.held_once;
-      held_within = f.held_within;
-      posted_wants = f.posted_wants;
-      demanded_waits = λ l owned asked. grind (arith, line_append_once l gone backs, f.demanded_waits l owned asked);
-      back_once = once_append_once gone backs f.back_once;
-      back_owned = λ l has. grind (arith, line_append_once l gone backs, f.back_owned l, e.0);
-      back_due = λ l has. grind (arith, line_append_once l gone backs, f.back_due l);
-      want_fine = λ w same. subst (IsWantFine shape (slot + 1) held (append_once gone backs) status) (grind arith)
-          (want_new shape slot line kind access (Some gone) held (append_once gone backs) status denied runs
-          (λ v which. (grind (arith, e.0), grind (arith, line_append_once v gone backs), grind (arith, e.1), grind (arith, e.0, e.2)))
-          (inr (inr (grind arith))));
-    }
+    let e = evicted_held shape line held (gone, Modified) f.held_once is in
+    requeued gone f e.0 f.posted_wants (λ l owned asked. grind (arith, line_append_once l gone backs, f.demanded_waits l owned asked))
+    (λ l has. grind (arith, line_append_once l gone backs, f.back_due l))
+    (λ w same. subst (IsWantFine shape (slot + 1) held (append_once gone backs) status) (grind arith)
+    (want_new shape slot line kind access (Some gone) held (append_once gone backs) status denied runs
+    (λ v which. (grind (arith, e.0), grind (arith, line_append_once v gone backs), grind (arith, e.1), grind (arith, e.0, e.2)))
+    (inr (inr (grind arith)))))
 
 pub fine_missed : (shape : Geometry) (slot : ℕ) (posted : List Request) (c : ℕ) (held : List (ℕ × Mode)) (backs : List ℕ) (status : Status)
     (line : ℕ) (kind : Kind) (access : Access) (gone : Option (ℕ × Mode))

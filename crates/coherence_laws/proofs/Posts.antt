@@ -12,9 +12,9 @@ use Rattle.pmsi_model.specs.Phase.{set_lines}
 use Rattle.pmsi_model.specs.Bus.{post_at, noted_post_in}
 use Rattle.pmsi_model.specs.Coherent.{RequestsOnce}
 use Rattle.pmsi_model.proofs.Held.{mode_without, once_without, fewer_without, room_without}
-use Rattle.pmsi_model.proofs.WriteBacks.{line_append_once, once_append_once}
+use Rattle.pmsi_model.proofs.WriteBacks.{line_append_once}
 use Rattle.pmsi_model.proofs.Requests.{request_more, has_request_more, request_less, has_request_less, has_request_else}
-use Rattle.coherence_laws.proofs.Fine.{IsWantFine, IsFine, FineCore, at_some}
+use Rattle.coherence_laws.proofs.Fine.{IsWantFine, IsFine, FineCore, at_some, unmoved, relined, requeued}
 
 -- ---- another core posts
 
@@ -23,16 +23,10 @@ fine_posted_else : (shape : Geometry) (slot : ℕ) (posted : List Request) (d : 
     (backs : List ℕ) (status : Status) (r : Request)
     → IsFine shape slot posted d held want backs status → r.core ≢ d → mode_of r.line held ≢ Some Modified
     → IsFine shape slot (posted ++ r ∷ []) d held want backs status
-fine_posted_else shape slot posted d held want backs status r f other unowned = record {
-  held_once = f.held_once;
-  held_within = f.held_within;
-  posted_wants = grind (arith, request_more d posted r, f.posted_wants);
-  demanded_waits = λ l owned asked. grind (arith, has_request_more l posted r, f.demanded_waits l owned);
-  back_once = f.back_once;
-  back_owned = f.back_owned;
-  back_due = λ l has. grind (arith, has_request_more l posted r, f.back_due l has);
-  want_fine = f.want_fine;
-}
+fine_posted_else shape slot posted d held want backs status r f other unowned =
+    unmoved f (grind (arith, request_more d posted r, f.posted_wants))
+    (λ l owned asked. grind (arith, has_request_more l posted r, f.demanded_waits l owned))
+    (λ l has. grind (arith, has_request_more l posted r, f.back_due l has)) f.want_fine
 
 room_left : (shape : Geometry) (line other : ℕ) (held : List (ℕ × Mode)) (victim : Option ℕ)
     → length (set_lines shape other held) ≤ shape.ways → mode_of line held ≢ None
@@ -63,16 +57,10 @@ fine_without : (shape : Geometry) (slot : ℕ) (posted : List Request) (d : ℕ)
     (status : Status) (line : ℕ)
     → IsFine shape slot posted d held want backs status → mode_of line held ≡ Some Shared
     → IsFine shape slot posted d (without line held) want backs status
-fine_without shape slot posted d held want backs status line f shared = record {
-  held_once = once_without line held f.held_once;
-  held_within = λ l. grind (arith, fewer_without shape l line held, f.held_within l);
-  posted_wants = f.posted_wants;
-  demanded_waits = λ l owned. f.demanded_waits l (grind (arith, mode_without l line held));
-  back_once = f.back_once;
-  back_owned = λ l has. grind (arith, mode_without l line held, f.back_owned l has);
-  back_due = f.back_due;
-  want_fine = λ w is. want_without shape slot line held backs status w (f.want_fine w is) shared (f.held_within w.line);
-}
+fine_without shape slot posted d held want backs status line f shared =
+    relined f (once_without line held f.held_once) (λ l. grind (arith, fewer_without shape l line held, f.held_within l))
+    (λ l owned. grind (arith, mode_without l line held)) (λ l has. grind (arith, mode_without l line held, f.back_owned l has))
+    (λ w is. want_without shape slot line held backs status w (f.want_fine w is) shared (f.held_within w.line))
 
 want_longer : (shape : Geometry) (slot line : ℕ) (held : List (ℕ × Mode)) (backs : List ℕ) (status : Status) (want : Want)
     → IsWantFine shape slot held backs status want
@@ -96,16 +84,11 @@ fine_posted_owner : (shape : Geometry) (slot : ℕ) (posted : List Request) (d :
     (backs : List ℕ) (status : Status) (r : Request)
     → IsFine shape slot posted d held want backs status → r.core ≢ d → mode_of r.line held ≡ Some Modified
     → IsFine shape slot (posted ++ r ∷ []) d held want (append_once r.line backs) status
-fine_posted_owner shape slot posted d held want backs status r f other owner = record {
-  held_once = f.held_once;
-  held_within = f.held_within;
-  posted_wants = grind (arith, request_more d posted r, f.posted_wants);
-  demanded_waits = λ l owned asked. grind (arith, has_request_more l posted r, line_append_once l r.line backs, f.demanded_waits l owned);
-  back_once = once_append_once r.line backs f.back_once;
-  back_owned = λ l has. grind (arith, line_append_once l r.line backs, f.back_owned l);
-  back_due = λ l has. grind (arith, has_request_more l posted r, line_append_once l r.line backs, f.back_due l);
-  want_fine = λ w is. want_longer shape slot r.line held backs status w (f.want_fine w is);
-}
+fine_posted_owner shape slot posted d held want backs status r f other owner =
+    requeued r.line f owner (grind (arith, request_more d posted r, f.posted_wants))
+    (λ l owned asked. grind (arith, has_request_more l posted r, line_append_once l r.line backs, f.demanded_waits l owned))
+    (λ l has. grind (arith, has_request_more l posted r, line_append_once l r.line backs, f.back_due l))
+    (λ w is. want_longer shape slot r.line held backs status w (f.want_fine w is))
 
 pub fine_noted : (shape : Geometry) (slot : ℕ) (posted : List Request) (d : ℕ) (k : CoreState) (r : Request) (kind : Kind) (mode : Option Mode)
     → FineCore shape slot posted d k → r.core ≢ d → mode_of r.line k.held ≡ mode
@@ -141,16 +124,11 @@ pub fine_post : (shape : Geometry) (slot : ℕ) (posted : List Request) (c : ℕ
     → IsFine shape (slot + 1) posted c held (Some want) backs status → want.post ≡ None → want.victim ≡ None
     → r ≡ record { core = c; line = want.line; kind = want.kind }
     → IsFine shape (slot + 1) (posted ++ r ∷ []) c held (Some (post_at slot want)) backs status
-fine_post shape slot posted c held want backs status r f unposted free mine = let w = f.want_fine want refl in record {
-  held_once = f.held_once;
-  held_within = f.held_within;
-  posted_wants = grind (arith, request_more c posted r, f.posted_wants);
-  demanded_waits = λ l owned asked. grind (arith, has_request_more l posted r, f.demanded_waits l owned, w.read_unheld, w.write_unowned);
-  back_once = f.back_once;
-  back_owned = f.back_owned;
-  back_due = λ l has. grind (arith, has_request_more l posted r, f.back_due l has);
-  want_fine = λ v is. at_some (IsWantFine shape (slot + 1) held backs status) (post_at slot want) v (want_post shape slot held backs status want w free) is;
-}
+fine_post shape slot posted c held want backs status r f unposted free mine = let w = f.want_fine want refl in
+    unmoved f (grind (arith, request_more c posted r, f.posted_wants))
+    (λ l owned asked. grind (arith, has_request_more l posted r, f.demanded_waits l owned, w.read_unheld, w.write_unowned))
+    (λ l has. grind (arith, has_request_more l posted r, f.back_due l has))
+    (λ v is. at_some (IsWantFine shape (slot + 1) held backs status) (post_at slot want) v (want_post shape slot held backs status want w free) is)
 
 -- ---- another core's request is filled
 
@@ -159,13 +137,6 @@ pub fine_rest : (shape : Geometry) (slot : ℕ) (posted : List Request) (c d : �
     → IsFine shape slot posted d held want backs status → d ≢ c → RequestsOnce posted → request_of c posted ≡ Some r
     → mode_of r.line held ≢ Some Modified
     → IsFine shape slot (removed c posted) d held want backs status
-fine_rest shape slot posted c d held want backs status r f other once is unowned = record {
-  held_once = f.held_once;
-  held_within = f.held_within;
-  posted_wants = grind (arith, request_less d c posted, f.posted_wants);
-  demanded_waits = λ l owned asked. f.demanded_waits l owned (has_request_less l c posted asked);
-  back_once = f.back_once;
-  back_owned = f.back_owned;
-  back_due = λ l has. grind (arith, has_request_else l c posted r once is, f.back_due l has, f.back_owned l has);
-  want_fine = f.want_fine;
-}
+fine_rest shape slot posted c d held want backs status r f other once is unowned =
+    unmoved f (grind (arith, request_less d c posted, f.posted_wants)) (λ l owned asked. f.demanded_waits l owned (has_request_less l c posted asked))
+    (λ l has. grind (arith, has_request_else l c posted r once is, f.back_due l has, f.back_owned l has)) f.want_fine

@@ -54,7 +54,7 @@ unfolding phase_touches
 touches_other job c d x other = instructions_other job.shape x.slot c d (text_of job c) job.shape.quantum (context_of x c) other
 
 -- the phases of the first cores have none of the others
-touches_above : (job : JobValue) (x : Machine) (count c : ℕ) → count ≤ c → touches_by c (phases_touches job count x) ≡ []
+pub touches_above : (job : JobValue) (x : Machine) (count c : ℕ) → count ≤ c → touches_by c (phases_touches job count x) ≡ []
 unfolding phases_touches
 touches_above job x zero c above = refl
 touches_above job x (suc count) c above =

@@ -38,6 +38,12 @@ written_gone shape line held once = record {
   others = λ l other. grind (arith, mode_without l line held);
 }
 
+-- other lines are held as before
+pub written_else : (kept : Bool) (line l : ℕ) (held : List (ℕ × Mode)) → l ≢ line
+    → mode_of l (if kept then with_mode line Shared held else without line held) ≡ mode_of l held
+written_else true line l held other = grind (arith, mode_with_mode l line Shared held)
+written_else false line l held other = grind (arith, mode_without l line held)
+
 want_back_clear : (shape : Geometry) (slot line : ℕ) (held after : List (ℕ × Mode)) (lines : List ℕ) (status : Status) (want : Want)
     → IsWantFine shape slot held (line ∷ lines) status want
     → IsWritten shape line held after → want.victim ≡ Some line → length (set_lines shape want.line after) < shape.ways

@@ -15,7 +15,7 @@ use Rattle.pmsi_model.specs.Named.{state_in, stays_shared}
 use Rattle.pmsi_model.specs.Bus.{clear_victim, keeps_line, write_back}
 use Rattle.pmsi_model.proofs.Changes.{write_back-memory, write_back-own, write_back-posted, written_core}
 use Rattle.pmsi_model.proofs.Held.{mode_with_mode, mode_without}
-use Rattle.coherence_laws.proofs.Exports.{backs_fit, IsWhole}
+use Rattle.coherence_laws.proofs.Exports.{backs_fit, written_else, IsWhole}
 use Rattle.cache_ctrl.specs.declared.Duty.{Duty}
 use Rattle.cache_ctrl.specs.declared.Duty.TheVariants.{Nothing, DropCopy}
 use Rattle.cache_ctrl.specs.declared.Event.TheVariants.{OwnBack}
@@ -82,10 +82,6 @@ duty_room : (kept : Bool) (line : ℕ) (v : State) → mode_of line (held_of v.c
 duty_room true line v held = tt
 duty_room false line v held = held
 
-else_backed : (kept : Bool) (line l : ℕ) (held : List (ℕ × Mode)) → l ≢ line → mode_of l (if kept then with_mode line Shared held else without line held) ≡ mode_of l held
-else_backed true line l held away = grind (arith, mode_with_mode l line Shared held)
-else_backed false line l held away = grind (arith, mode_without l line held)
-
 stays_is : (kept : Bool) → stays_in (if kept then MSWB else MIWB) ≡ kept
 stays_is true = refl
 stays_is false = refl
@@ -150,7 +146,7 @@ module _ (job : JobValue) (s : ℕ) (y : Machine) (c line : ℕ) (lines : List �
   knows_backed = knows_changed y.posted y.posted c v (backed line lines v) line (written_core line (keeps line v) (core_of v)) w.core_in.knows core_backed
       (changed_listed OwnBack line (popped lines v) (state_in y.posted c (written_core line (keeps line v) (core_of v)) line) (back_duty (keeps line v)) entry)
       (λ l away. writes_back_else y.posted c (core_of v) line l lines (keeps line v) w.first away)
-      (λ l away. else_backed (keeps line v) line l (held_of v.cache.lines) away)
+      (λ l away. written_else (keeps line v) line l (held_of v.cache.lines) away)
 
   pub back_backed : IsCoreIn job c (write_back y c line (keeps line v)) (backed line lines v)
   back_backed = record {

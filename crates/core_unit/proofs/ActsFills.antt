@@ -20,7 +20,7 @@ use Rattle.pmsi_model.proofs.Changes.{fill-memory, fill-own, fill-posted, filled
 use Rattle.pmsi_model.proofs.Held.{mode_to_front}
 use Rattle.pmsi_model.proofs.Requests.{request_less}
 use Rattle.pmsi_model.proofs.Accesses.{IsFit, length-memory_after, memory_after_below, read_after}
-use Rattle.coherence_laws.proofs.Exports.{IsAsked, nobody_at_all, IsWhole}
+use Rattle.coherence_laws.proofs.Exports.{filled_else, IsAsked, nobody_at_all, IsWhole}
 use Rattle.cache_ctrl.specs.declared.Duty.{Duty}
 use Rattle.cache_ctrl.specs.declared.Event.TheVariants.{OwnFill}
 use Rattle.cache_ctrl.specs.Duties.{backs_by}
@@ -37,7 +37,6 @@ use Rattle.core_unit.specs.Stands.{CopiesAgree, Carries, KnowsStates}
 use Rattle.core_unit.proofs.ActsCopies.{AreWords, copies_put, met_there, other_word, words_after}
 use Rattle.core_unit.proofs.Carried.{rebuilt}
 use Rattle.core_unit.proofs.Changed.{changed_listed, entry_of, knows_changed, settled_in, some_comes, states_room}
-use Rattle.core_unit.proofs.SidesOwners.{else_mode}
 use Rattle.core_unit.proofs.Snoops.{IsCoreIn}
 use Rattle.core_unit.proofs.Words.{some_words}
 
@@ -251,7 +250,7 @@ module _ (job : JobValue) (s : ℕ) (y : Machine) (c : ℕ) (want : Want) (words
       (fill_duty want.kind (has_request want.line (behind_of c y.posted))) entry)
       (λ l away. own_fills_else y c want l (settled_in job.shape s y c (y.cores c) f.whole refl) f.wants f.posted away
       ∙ ap (λ (k : CoreState). state_in y.posted c k l) f.core_in.stands.core)
-      (λ l away. ap (mode_of l) held_core ∙ else_mode want.kind (has_write want.line (removed c y.posted)) want.line l (held_of v.cache.lines) away)
+      (λ l away. ap (mode_of l) held_core ∙ filled_else want.kind (has_write want.line (removed c y.posted)) want.line l (held_of v.cache.lines) away)
 
   served_by_job : (post : ℕ) → IsCoreIn job c (fill y c) (served_on job.shape want words post v)
   served_by_job post = record {

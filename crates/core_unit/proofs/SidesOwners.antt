@@ -11,6 +11,7 @@ use Rattle.pmsi_model.specs.Machine.{Machine, CoreState, mode_of, mode_in, is_mo
 use Rattle.pmsi_model.specs.Bus.{post, noted_post, fill, filled_line, write_back}
 use Rattle.pmsi_model.proofs.Changes.{filled_core, post-own, post-other, noted-mode, fill-own, fill-other, write_back-own, write_back-other}
 use Rattle.pmsi_model.proofs.Held.{mode_without, mode_to_front, mode_with_mode}
+use Rattle.coherence_laws.proofs.Exports.{filled_else}
 use Rattle.pmsi_model.proofs.Owners.{nobody_none, nobody_below, nobody_from, owner_alone, owner_same, unmodified}
 
 -- ---- a post
@@ -47,12 +48,6 @@ read_owns false line l held other = dite (ℕ_discrete l line)
     in ap is_modified m ∙ sym (unmodified (mode_of line held) other)))
     (λ there. ap is_modified (let f = mode_to_front l line Shared held in grind arith))
 
--- other lines are held as before
-pub else_mode : (kind : Kind) (behind : Bool) (line l : ℕ) (held : List (ℕ × Mode)) → l ≢ line → mode_of l (filled_line kind behind line held) ≡ mode_of l held
-else_mode Read true line l held other = refl
-else_mode Read false line l held other = let f = mode_to_front l line Shared held in grind arith
-else_mode Write behind line l held other = let f = mode_to_front l line Modified held in grind arith
-
 write_mode : (behind : Bool) (line : ℕ) (held : List (ℕ × Mode)) → mode_of line (filled_line Write behind line held) ≡ Some Modified
 write_mode behind line held = let f = mode_to_front line line Modified held in grind arith
 
@@ -74,7 +69,7 @@ module _ (x : Machine) (c : ℕ) (want : Want) (wants : (x.cores c).want ≡ Som
   fill-owner_else count l other = owner_same (fill x c) x count l (λ d below. dite (ℕ_discrete d c)
       (λ same. subst (λ (n : ℕ). owns (fill x c) n l ≡ owns x n l) (sym same)
       (ap (λ (k : CoreState). is_modified (mode_of l k.held)) held_after
-      ∙ ap is_modified (else_mode want.kind (has_write want.line (removed c x.posted)) want.line l (x.cores c).held other)))
+      ∙ ap is_modified (filled_else want.kind (has_write want.line (removed c x.posted)) want.line l (x.cores c).held other)))
       (λ there. ap (λ (k : CoreState). is_modified (mode_of l k.held)) (fill-other x c d there)))
 
   -- a write makes its core the owner

@@ -15,7 +15,7 @@ use Rattle.pmsi_model.specs.Phase.{Context, access_at, context_of, instruction_t
 use Rattle.pmsi_model.specs.Rows.{action_row, row_of, slot_rows}
 use Rattle.pmsi_model.specs.Run.{action_touch, after_phases, machine_at, record_at, slot_owner, slot_touches, want_touch}
 use Rattle.pmsi_model.proofs.Boundaries.{machine_at-slot, phases-slot}
-use Rattle.coherence_laws.proofs.Exports.{touches_by-append, touches_own, touches_other}
+use Rattle.coherence_laws.proofs.Exports.{touches_by-append, touches_own, touches_other, touches_above}
 use Rattle.listing.specs.Rests.{rows_from, touches_from}
 use Rattle.listing.proofs.Joins.{joined, joined_same, only_one, nothing}
 
@@ -137,14 +137,6 @@ touch_joined y o count (Back line kept) below = nothing (λ (t : Touch). t.core)
 
 -- ---- the accesses of the phases, core by core
 
-phases_above : (job : JobValue) (x : Machine) (count c : ℕ) → count ≤ c → touches_by c (phases_touches job count x) ≡ []
-unfolding phases_touches
-phases_above job x zero c above = refl
-phases_above job x (suc count) c above = let last : List Touch = phase_touches job count (phases job count x) in
-    touches_by-append c (phases_touches job count x) last
-    ∙ ap (λ (ts : List Touch). ts ++ touches_by c last) (phases_above job x count c (omega arith))
-    ∙ touches_other job count c (phases job count x) (omega arith)
-
 pub phases_joined : (job : JobValue) (x : Machine) (count : ℕ) → joined (λ c. touches_by c (phases_touches job count x)) count ≡ phases_touches job count x
 unfolding phases_touches
 phases_joined job x zero = refl
@@ -156,7 +148,7 @@ phases_joined job x (suc count) =
     (λ c less. touches_by-append c before last ∙ ap (λ (ts : List Touch). touches_by c before ++ ts) (touches_other job count c (phases job count x) (omega arith))
     ∙ append-nil (touches_by c before)) ∙ phases_joined job x count in
     let own : touches_by count (before ++ last) ≡ last =
-    touches_by-append count before last ∙ ap (λ (ts : List Touch). ts ++ touches_by count last) (phases_above job x count count (omega arith))
+    touches_by-append count before last ∙ ap (λ (ts : List Touch). ts ++ touches_by count last) (touches_above job x count count (omega arith))
     ∙ touches_own job count (phases job count x) in
     ap (λ (ts : List Touch). ts ++ touches_by count (before ++ last)) below ∙ ap (λ (ts : List Touch). before ++ ts) own
 

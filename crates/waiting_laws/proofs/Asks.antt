@@ -4,8 +4,7 @@ use mathlib.Core.Logic.{dite}
 use native.Mathlib.Decide.{ℕ_discrete}
 use Rattle.pmsi_model.specs.declared.Kind.{Kind}
 use Rattle.pmsi_model.specs.declared.Kind.TheVariants.{Read, Write}
-use Rattle.pmsi_model.specs.declared.Mode.{Mode}
-use Rattle.pmsi_model.specs.declared.Mode.TheVariants.{Shared, Modified}
+use Rattle.pmsi_model.specs.declared.Mode.TheVariants.{Modified}
 use Rattle.pmsi_model.specs.declared.Turn.{Turn}
 use Rattle.pmsi_model.specs.declared.Turn.TheVariants.{Request as RequestTurn, WriteBack as WriteBackTurn}
 use Rattle.pmsi_model.specs.declared.Want.{Want}
@@ -13,14 +12,13 @@ use Rattle.pmsi_model.specs.Job.{JobValue}
 use Rattle.pmsi_model.specs.Slots.{plan_of}
 use Rattle.pmsi_model.specs.Run.{slot_owner}
 use Rattle.pmsi_model.specs.Machine.{Machine, CoreState, Request, mode_of, mode_in, is_modified, has_line, append_once, first_of, ahead, request_of, removed, has_request, has_write}
-use Rattle.pmsi_model.specs.Bus.{post, noted_post, fill, fill_for, append_demanded, filled_line, can_write_back, is_request_turn, requests_now}
+use Rattle.pmsi_model.specs.Bus.{post, noted_post, fill, fill_for, append_demanded, can_write_back, is_request_turn, requests_now}
 use Rattle.pmsi_model.specs.Waiting.{place_of, left_for}
 use Rattle.pmsi_model.proofs.Cases.{by_test, at_core}
 use Rattle.pmsi_model.proofs.Changes.{posted_core, filled_core, noted-turn, noted-mode, noted-backs}
-use Rattle.pmsi_model.proofs.Held.{mode_to_front}
 use Rattle.pmsi_model.proofs.WriteBacks.{line_append_once, line_kept, place_append_once, place_kept}
 use Rattle.pmsi_model.proofs.Requests.{request_more, request_less, first_more, first_less, first_request, ahead_more, ahead_else}
-use Rattle.coherence_laws.proofs.Exports.{IsWhole}
+use Rattle.coherence_laws.proofs.Exports.{filled_else, IsWhole}
 use Rattle.waiting_laws.proofs.Steps.{BackFalls, back_far, back_turn, request_far, request_for, request_here}
 use Rattle.waiting_laws.proofs.Stays.{posted_on, unposted_on}
 
@@ -95,11 +93,6 @@ demanded_places Read behind line lines l has = (has, refl)
 demanded_places Write true line lines l has = (line_kept l lines (line ∷ []) has, place_kept l lines (line ∷ []) has)
 demanded_places Write false line lines l has = (has, refl)
 
-filled_else : (kind : Kind) (behind : Bool) (l line : ℕ) (held : List (ℕ × Mode)) → l ≢ line → mode_of l (filled_line kind behind line held) ≡ mode_of l held
-filled_else Write behind l line held other = grind (arith, mode_to_front l line Modified held)
-filled_else Read true l line held other = refl
-filled_else Read false l line held other = grind (arith, mode_to_front l line Shared held)
-
 apart_line : (l line : ℕ) → Some line ≢ Some l → l ≢ line
 apart_line l line apart same = apart (ap (λ (n : ℕ). Some n) (sym same))
 
@@ -114,9 +107,9 @@ fill_asks_for job slot x w want whole is =
       places = at_core (λ d j. KeepsPlaces (x.cores d).write_backs j.write_backs) w k x.cores
           (demanded_places want.kind (has_request want.line (removed w x.posted)) want.line (x.cores w).write_backs) (λ d other l has. (has, refl));
       owned = at_core (λ d j. (l : ℕ) → Some want.line ≢ Some l → mode_of l (x.cores d).held ≡ Some Modified → mode_of l j.held ≡ Some Modified) w k x.cores
-          (λ l apart here. filled_else want.kind behind l want.line (x.cores w).held (apart_line l want.line apart) ∙ here) (λ d other l _ here. here);
+          (λ l apart here. filled_else want.kind behind want.line l (x.cores w).held (apart_line l want.line apart) ∙ here) (λ d other l _ here. here);
       free = at_core (λ d j. (l : ℕ) → Some want.line ≢ Some l → mode_of l j.held ≡ Some Modified → mode_of l (x.cores d).held ≡ Some Modified) w k x.cores
-          (λ l apart here. sym (filled_else want.kind behind l want.line (x.cores w).held (apart_line l want.line apart)) ∙ here) (λ d other l _ here. here);
+          (λ l apart here. sym (filled_else want.kind behind want.line l (x.cores w).held (apart_line l want.line apart)) ∙ here) (λ d other l _ here. here);
       firsts = λ l f apart first. let q = first_request f l x.posted whole.once first in
           let not_own : f ≢ w = (λ same. absurd (let e = subst (λ (n : ℕ). request_of n x.posted ≡ Some q.0) same q.1 in
           let s : Some (request_for w want) ≡ Some q.0 = sym is ∙ e in

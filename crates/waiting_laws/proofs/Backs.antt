@@ -19,7 +19,7 @@ use Rattle.pmsi_model.proofs.Cases.{by_test, by_bool}
 use Rattle.pmsi_model.proofs.Changes.{written_core, write_back-own, write_back-other, write_back-posted}
 use Rattle.pmsi_model.proofs.Held.{mode_without, mode_with_mode}
 use Rattle.pmsi_model.proofs.Requests.{first_request, core_is}
-use Rattle.coherence_laws.proofs.Exports.{IsWhole}
+use Rattle.coherence_laws.proofs.Exports.{written_else, IsWhole}
 use Rattle.pmsi_model.proofs.Distances.{distance_some}
 use Rattle.waiting_laws.proofs.Steps.{BackFalls, RequestFalls, back_far, back_place, request_far, request_turn, request_slots_most, request_for, request_here, first_is, poster_below}
 use Rattle.waiting_laws.proofs.Stays.{posted_on, unposted_on, left_posted, left_unposted, owner_here, nobody_here}
@@ -128,11 +128,6 @@ written_mode : (line l : ℕ) (kept : Bool) (held : List (ℕ × Mode)) → mode
 written_mode line l true held is = (grind (arith, mode_with_mode l line Shared held), λ same. grind (arith, mode_with_mode l line Shared held))
 written_mode line l false held is = (grind (arith, mode_without l line held), λ same. grind (arith, mode_without l line held))
 
-written_else : (line l : ℕ) (kept : Bool) (held : List (ℕ × Mode)) → l ≢ line
-    → mode_of l (if kept then with_mode line Shared held else without line held) ≡ mode_of l held
-written_else line l true held other = grind (arith, mode_with_mode l line Shared held)
-written_else line l false held other = grind (arith, mode_without l line held)
-
 place_next : (l line : ℕ) (lines before after : List ℕ) → before ≡ line ∷ lines → after ≡ drop 1 before → Some line ≢ Some l
     → place_of l before ≡ place_of l after + 1
 place_next l line lines before after is then_is apart =
@@ -163,7 +158,7 @@ back_unserved job x w line lines kept owner later backs =
       owned = λ d l apart is. dite (ℕ_discrete d w)
           (λ same. subst (λ (n : ℕ). mode_in y n l ≡ Some Modified) (sym same)
           (ap (λ (k : CoreState). mode_of l k.held) own
-          ∙ written_else line l kept (x.cores w).held (λ e. apart (ap (λ (n : ℕ). Some n) (sym e)))
+          ∙ written_else kept line l (x.cores w).held (λ e. apart (ap (λ (n : ℕ). Some n) (sym e)))
           ∙ subst (λ (n : ℕ). mode_in x n l ≡ Some Modified) same is))
           (λ other. ap (λ (k : CoreState). mode_of l k.held) (others d other) ∙ is);
       free = λ d l is. dite (ℕ_discrete d w)
