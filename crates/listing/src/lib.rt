@@ -3,12 +3,12 @@
 #![tactic(auto)]
 
 mod head;
-mod histories;
 mod memory;
 mod merge;
 mod requests;
 mod rests;
 mod sections;
+mod touches;
 mod waits;
 mod whole;
 

@@ -4,8 +4,8 @@ ghost use Rattle.std.specs.List.{flat_map, prefix_len};
 ghost use Rattle.listing.specs.Rests.{fills, phase_count, without_rows, without_touches};
 ghost use Rattle.listing.specs.Pieces.{piece_text, past_piece};
 
-use crate::histories::push_touch_lines;
 use crate::requests::push_row_lines;
+use crate::touches::push_touch_lines;
 use pmsi_model::{Row, Touch};
 use std::alloc::AllocError;
 use std::marker::Model;

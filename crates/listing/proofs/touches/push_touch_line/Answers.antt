@@ -1,6 +1,6 @@
 use Rattle.std.proofs.Common.{◌≡◌, ℕ, List, OnOk, subst}
 use Rattle.listing.proofs.Texts.{touch_parts}
-use Rattle.listing.proofs.histories.push_touch_line.Goals as goal
+use Rattle.listing.proofs.touches.push_touch_line.Goals as goal
 
 pub returns : goal.returns
 returns c =
