@@ -5,3 +5,4 @@ pub mod TurnActs
 pub mod SeatLists
 pub mod Seatings
 pub mod Exports
+pub mod TestSeats

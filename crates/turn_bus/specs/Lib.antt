@@ -3,3 +3,4 @@ pub mod Sharing
 pub mod Rule
 pub mod Answers
 pub mod Seats
+pub mod TestRuns

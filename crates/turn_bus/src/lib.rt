@@ -8,6 +8,8 @@ mod opening;
 mod polling;
 mod rule;
 mod seat;
+#[cfg(test)]
+mod tests;
 mod view;
 
 pub use numbers::{action_of, actions_come_back, number_of};
