@@ -23,7 +23,7 @@ Table = State Slot View
 abbrev pub Hand : Type 0
 Hand = Me Slot View
 
--- what a seat knows, of that which any seat of a shared bus does
+-- the part of a view that the seats of every shared bus have
 abbrev pub knowing : View → Knowing
 knowing v = record { job = v.job; keeps = v.keeps; number = v.number; count = v.count; made = v.made; joined = v.joined }
 

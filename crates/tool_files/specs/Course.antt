@@ -32,7 +32,7 @@ pub data Step (V : Type 0) : Type 0 where
   refuses : Place → Detail → Step V
   gives : V → Step V
 
--- what can come
+-- a course: which steps can come
 abbrev pub Course : Type 0 → Type 1
 Course V = Step V → Type 0
 

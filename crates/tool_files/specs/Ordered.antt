@@ -29,7 +29,7 @@ use Rattle.tool_files.specs.Course.{Step, opens, refuses, gives, Reads, keeps_no
 abbrev pub Helds : Type 0
 Helds = List (List ℕ)
 
--- what can come on such bytes
+-- which steps can come behind files of these bytes
 abbrev pub Order : Type 0 → Type 1
 Order V = Helds → Step V → Type 0
 

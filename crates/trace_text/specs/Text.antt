@@ -21,7 +21,7 @@ end_text count = codes "end " ++ decimal count ++ codes "\n"
 unfoldable pub trace_of : Trace → List ℕ
 trace_of trace = head_text trace.cores ++ action_lines (plain_plan trace.cores) 0 trace.actions ++ end_text (length trace.actions)
 
--- its line is one that a memory can have
+-- the line that an action names, if it names one, is one that a memory can have
 abbrev pub HasLine : Action → Type 0
 HasLine Idle = Unit {0}
 HasLine (Post name line) = line ≤ MAX_LINE

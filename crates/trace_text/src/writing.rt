@@ -20,7 +20,7 @@ pub fn write_trace(alloc: Global, trace: &Trace) -> Result<Vec<u8>, NoMemory>
     write_actions(alloc, &table, trace.actions.as_slice())
 }
 
-/// The text of the trace of a bus with these slots that has these actions, without a copy of them.
+/// The text of the trace of these actions, without a copy of them. The cores of the table own the slots in turn.
 pub fn write_actions(
     alloc: Global,
     table: &SlotTable,

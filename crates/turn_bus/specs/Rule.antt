@@ -39,7 +39,7 @@ word_of_slot plan slot = 1 + slot % gap_of plan
 abbrev pub IsStored : JobValue → ℕ → List ℕ → Type 0
 IsStored job slot words = IsNumberOf (slice_index words (word_of_slot (plan_of job) slot)) (record_at job slot)
 
--- what a seat knows, of that which any seat of a shared bus does
+-- the part of a view that the seats of every shared bus have
 abbrev pub knowing : View → Knowing
 knowing v = record { job = v.job; keeps = v.keeps; number = v.number; count = v.count; made = v.made; joined = v.joined }
 

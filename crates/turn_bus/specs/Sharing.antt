@@ -8,6 +8,7 @@ use Rattle.pmsi_model.specs.Parts.{IsBusPart}
 abbrev pub IsBusAt : JobValue → Bool → ℕ → BusSide → Type 0
 IsBusAt job keeps turn b = IsBusPart job turn b × (b.keeps ≡ keeps)
 
+-- the number isn't in the list
 abbrev pub Absent : ℕ → List ℕ → Type 0
 Absent x [] = Unit {0}
 Absent x (y ∷ ys) = (x ≢ y) × Absent x ys
@@ -21,13 +22,15 @@ pub record Knowing : Type 0 where
   pub made : ℕ
   pub joined : List ℕ
 
--- one more seat is made, and it has the next number
+-- what the seat of core 0 knows once one more seat is made
 abbrev pub knows_more : Knowing → Knowing
 knows_more k = record k { made = k.made + 1 }
 
+-- what that new seat knows: it has the next number
 abbrev pub knows_first : Knowing → Knowing
 knows_first k = record { job = k.job; keeps = k.keeps; number = k.made; count = 0; made = 0; joined = [] }
 
+-- what the seat of core 0 knows once another is joined into it
 abbrev pub knows_joined : Knowing → Knowing → Knowing
 knows_joined k other = record k { joined = other.number ∷ k.joined }
 
@@ -89,7 +92,7 @@ pub record AreLeft {S : Type 0} (bus : Seating S) (job : JobValue) (keeps : Bool
   pub order : OthersInOrder bus (stage job keeps job.shape.slots job.shape.cores) seats
   pub joined : AreJoined (length seats + 1) job.shape.cores (bus.knows root)
 
--- what that of core 0 knows after the last slot, with all others joined into it
+-- what the seat of core 0 knows after the last slot, with all others joined into it
 pub record HasAll (root : Knowing) : Type 0 where
   pub zero : root.number ≡ 0
   pub over : root.count ≡ root.job.shape.slots
