@@ -1,5 +1,5 @@
-//! Tests of the program's two calls, on files in memory and sinks that keep what is written, and of whole machines: on one
-//! thread, in any order of steps, and on many threads.
+//! Tests of the program's two calls, on files in memory and sinks that keep what is written; of words, images and traces; and
+//! of whole machines: on one thread, in any order of steps, and on many threads.
 use pmsi_outside::{Files, Gate, MemoryFiles, MemorySink, OpenGate, SteadyFiles};
 use pmsi_tool::{ToolStatus, tool, tool_threads};
 use std::alloc::{AllocError, Global};
@@ -16,6 +16,7 @@ mod faults;
 mod images;
 mod jobs;
 mod machines;
+mod orders;
 mod runs;
 mod steps;
 mod traces;

@@ -1,4 +1,4 @@
-//! Machines of small jobs: their texts, the jobs, and what is equal in two machines that came to the same.
+//! Machines of small jobs: their texts, the jobs, and a comparison of two cores.
 ghost use Rattle.std.specs.Prelude.{◌≡◌, ◌≤◌, ◌<◌, ◌^◌, IfOk, length};
 ghost use Rattle.std.specs.List.{All};
 ghost use Rattle.pmsi_model.specs.declared.limits.TheConstants.{MAX_TEXT_WORDS};
@@ -79,7 +79,7 @@ fn same_held(rt: &impl Abort, one: &CacheArray, other: &CacheArray) {
     }
 }
 
-/// All that is kept of a core is equal in both.
+/// Slot, registers, status, rows, accesses and held lines are equal in both.
 pub(super) fn same_core(rt: &impl Abort, one: &Core, other: &Core) {
     assert_eq!(rt; one.slot(), other.slot());
     assert_eq!(rt; one.regs(), other.regs());

@@ -1,13 +1,15 @@
 //! Whole runs of small jobs, cut off after so many slots.
-ghost use Rattle.std.specs.Prelude.{◌≡◌, ◌*◌, ◌≤◌, ◌<◌, ◌^◌, IfOk, length};
+ghost use Rattle.std.specs.Prelude.{◌≡◌, ◌*◌, ◌≤◌, ◌<◌, ◌^◌, IfOk, length, true};
 ghost use Rattle.std.specs.List.{All};
 ghost use Rattle.pmsi_model.specs.declared.limits.TheConstants.{MAX_TEXT_WORDS, MAX_TOUCHES};
 ghost use Rattle.pmsi_model.specs.Geometry.{most_touches};
-ghost use Rattle.sim_serial.specs.Sims.{shape_of, slot_of};
+ghost use Rattle.sim_serial.specs.Sims.{Keeps, shape_of, slot_of};
 
 mod cells;
 
+use super::jobs::examples::TWO_WRITERS;
 use super::machines::{ALL, alike, job, text};
+use listing::listing;
 use pmsi_model::{
     Action, Geometry, Halt, Kind, Mode, Name, OpenRow, Reg, Row, State, Status, Touch, Words,
 };
@@ -33,13 +35,13 @@ const SW_X11_16: u32 = 0x00b0_2823;
 const LW_X6: u32 = 0x0000_2303;
 
 /// `addi x5, x0, 7` and `sw x5, 0(x0)`
-const WRITES_7: [u32; 3] = [0x0070_0293, 0x0050_2023, ECALL];
+pub(super) const WRITES_7: [u32; 3] = [0x0070_0293, 0x0050_2023, ECALL];
 
 /// `addi x6, x0, 1` and `amoadd.w x5, x6, (x0)`
 const COUNTS: [u32; 3] = [0x0010_0313, 0x0060_22af, ECALL];
 
 /// Lines of four words, one set of one way, and 64 bytes.
-fn small(cores: u32, quantum: u32, slots: u32) -> Geometry
+pub(super) fn small(cores: u32, quantum: u32, slots: u32) -> Geometry
     ensures cores { result.cores ≡ cores }
     ensures slots { result.slots ≡ slots }
     ensures line { result.line_words ≡ 4 }
@@ -69,6 +71,7 @@ fn open(
     requires touches { most_touches shape ≤ MAX_TOUCHES }
     ensures shape { IfOk result (λ sim. shape_of sim ≡ shape) }
     ensures slot { IfOk result (λ sim. slot_of sim ≡ 0) }
+    ensures keeps { IfOk result (λ sim. Keeps (record { trace = true; touches = true }) sim) }
 {
     let job = job(rt, alloc, shape, texts)?;
     let Ok(sim) = Sim::open(alloc, &job, ALL) else {
@@ -167,6 +170,17 @@ fn keeps_actions_and_accesses(rt: HostRuntime) -> Result<(), Fail> {
     Ok(())
 }
 
+/// Run to its end, the machine of two writers has their listing.
+fn ends_as_two_writers(rt: &impl Abort, alloc: Global, sim: &mut Sim)
+    requires { Keeps (record { trace = true; touches = true }) sim.old }
+{
+    sim.run();
+    let Ok(text) = listing(alloc, sim, ALL) else {
+        panic!(rt; "no memory")
+    };
+    assert_eq!(rt; text.as_slice(), TWO_WRITERS.listing.as_bytes());
+}
+
 /// A copy in mid-run goes on as its original does.
 #[test]
 fn a_copy_goes_on_alike(rt: HostRuntime) -> Result<(), Fail> {
@@ -177,14 +191,8 @@ fn a_copy_goes_on_alike(rt: HostRuntime) -> Result<(), Fail> {
     let Ok(mut copy) = sim.copy(alloc) else {
         panic!(&rt; "no memory")
     };
-    sim.run();
-    copy.run();
-    assert_eq!(rt; copy.slot(), 6);
-    for c in 0..2 {
-        assert_eq!(rt; copy.rows(c), sim.rows(c), "core {c}");
-        assert_eq!(rt; copy.core(c).regs(), sim.core(c).regs(), "core {c}");
-        assert_eq!(rt; copy.held(c, 0), sim.held(c, 0), "core {c}");
-    }
+    ends_as_two_writers(&rt, alloc, &mut sim);
+    ends_as_two_writers(&rt, alloc, &mut copy);
     Ok(())
 }
 

@@ -58,7 +58,7 @@ fn job_of(rt: &impl Abort, alloc: Global, cores: u32, draws: &mut Draws) -> Resu
     job(rt, alloc, shape, texts(alloc, cores, draws)?)
 }
 
-/// The next step of a core in its order.
+/// Takes the next step of a core in its order.
 fn step_next(rt: &impl Abort, spread: &mut Spread, c: u32) -> Took {
     assert!(rt; c < spread.shape().cores);
     if spread.core(c).phase_done() {
