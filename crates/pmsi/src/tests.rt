@@ -26,6 +26,9 @@ mod workers;
 /// The name of a file, and its bytes.
 type File = (&'static str, &'static [u8]);
 
+/// The names of files, and their bytes.
+type FileList = Vec<(String, Vec<u8>)>;
+
 fn words_of(alloc: Global, texts: &[&str]) -> Result<Vec<String>, AllocError> {
     let mut words = Vec::new(alloc);
     for text in texts {
@@ -34,49 +37,77 @@ fn words_of(alloc: Global, texts: &[&str]) -> Result<Vec<String>, AllocError> {
     Ok(words)
 }
 
+/// Adds a file of this name.
+fn add(alloc: Global, list: &mut FileList, name: &str, bytes: &[u8]) -> Result<(), AllocError> {
+    let name = String::from_str(alloc, name)?;
+    let bytes = bytes.to_vec(alloc)?;
+    list.push((name, bytes))?;
+    Ok(())
+}
+
 /// One file, whose name is `a.job`.
-fn one(alloc: Global, bytes: Vec<u8>) -> Result<Vec<(String, Vec<u8>)>, AllocError> {
+fn one(alloc: Global, bytes: &[u8]) -> Result<FileList, AllocError> {
     let mut list = Vec::new(alloc);
-    list.push((String::from_str(alloc, "a.job")?, bytes))?;
+    add(alloc, &mut list, "a.job", bytes)?;
     Ok(list)
 }
 
 /// These files, and a job of this text, whose name is `a.job`.
-fn with_job(
-    alloc: Global,
-    job: &str,
-    files: &[File],
-) -> Result<Vec<(String, Vec<u8>)>, AllocError> {
-    let mut list = one(alloc, job.as_bytes().to_vec(alloc)?)?;
+fn with_job(alloc: Global, job: &str, files: &[File]) -> Result<FileList, AllocError> {
+    let mut list = one(alloc, job.as_bytes())?;
     for (name, bytes) in files {
-        list.push((String::from_str(alloc, name)?, bytes.to_vec(alloc)?))?;
+        add(alloc, &mut list, name, bytes)?;
     }
     Ok(list)
 }
 
 /// The files of a job whose cores have these sources: the job is `a.job`, and the source of core 0 is `0.s`.
-fn job_files(
-    alloc: Global,
-    heads: &str,
-    sources: &[&str],
-) -> Result<Vec<(String, Vec<u8>)>, AllocError> {
+fn job_files(alloc: Global, heads: &str, sources: &[&str]) -> Result<FileList, AllocError> {
     let mut text = format!(in alloc; "pmsi 1\ncores {}\n{heads}\n", sources.len())?;
     let mut list = Vec::new(alloc);
     for (core, source) in sources.iter().enumerate() {
         let line = format!(in alloc; "core {core} asm {core}.s\n")?;
         text.push_str(line.as_str())?;
-        list.push((
-            format!(in alloc; "{core}.s")?,
-            source.as_bytes().to_vec(alloc)?,
-        ))?;
+        let name = format!(in alloc; "{core}.s")?;
+        add(alloc, &mut list, name.as_str(), source.as_bytes())?;
     }
-    list.push((String::from_str(alloc, "a.job")?, text.into_bytes()))?;
+    add(alloc, &mut list, "a.job", text.as_bytes())?;
     Ok(list)
 }
 
-fn sink(alloc: Global, step: u32, fails: Vec<u64>) -> Result<MemorySink, AllocError> {
-    let room = vec![in alloc; 0u8; 16_384]?;
-    Ok(MemorySink::new(room, step.max(1), fails))
+/// How many bytes each call of a file or a sink moves at most, and the number of the call that fails.
+#[derive(Clone, Copy)]
+struct Calls {
+    step: u32,
+    fails: Option<u64>,
+}
+
+/// Calls that move all that is asked for, and never fail.
+const STEADY: Calls = Calls {
+    step: 65_552,
+    fails: None,
+};
+
+/// Calls of which the first that fails has this number.
+fn failing_at(step: u32, number: u64) -> Calls {
+    Calls {
+        step,
+        fails: Some(number),
+    }
+}
+
+fn numbers(alloc: Global, calls: Calls) -> Result<Vec<u64>, AllocError> {
+    match calls.fails {
+        Some(number) => Ok(Vec::from_array(alloc, [number])?),
+        None => Ok(Vec::new(alloc)),
+    }
+}
+
+/// A sink with room for the longest image.
+fn sink(alloc: Global, calls: Calls) -> Result<MemorySink, AllocError> {
+    let fails = numbers(alloc, calls)?;
+    let room = vec![in alloc; 0u8; 65_552]?;
+    Ok(MemorySink::new(room, calls.step.max(1), fails))
 }
 
 /// How a call ended, and what its sinks hold.
@@ -87,25 +118,36 @@ struct Ran {
     err: MemorySink,
 }
 
-/// Calls `tool` with these words and files, a sink that fails as told for `out`, and one for `err`.
+/// Calls `tool` with these words and files, and sinks whose calls go as told.
 fn call<F: Files>(
     alloc: Global,
     texts: &[&str],
     files: &mut F,
-    mut out: MemorySink,
-    mut err: MemorySink,
+    out: Calls,
+    err: Calls,
 ) -> Result<Ran, AllocError> {
     let words = words_of(alloc, texts)?;
+    let mut out = sink(alloc, out)?;
+    let mut err = sink(alloc, err)?;
     let status = tool(alloc, &words, files, &mut out, &mut err);
     Ok(Ran { status, out, err })
 }
 
-/// Calls `tool` with files and sinks that never fail.
-fn run(alloc: Global, texts: &[&str], list: Vec<(String, Vec<u8>)>) -> Result<Ran, AllocError> {
+/// Calls `tool` with files that never fail, and sinks whose calls go as told.
+fn run_writing(
+    alloc: Global,
+    texts: &[&str],
+    list: FileList,
+    out: Calls,
+    err: Calls,
+) -> Result<Ran, AllocError> {
     let mut files = SteadyFiles::new(list);
-    let out = sink(alloc, 16_384, Vec::new(alloc))?;
-    let err = sink(alloc, 16_384, Vec::new(alloc))?;
     call(alloc, texts, &mut files, out, err)
+}
+
+/// Calls `tool` with files and sinks that never fail.
+fn run(alloc: Global, texts: &[&str], list: FileList) -> Result<Ran, AllocError> {
+    run_writing(alloc, texts, list, STEADY, STEADY)
 }
 
 /// Calls `tool_threads` with files and sinks that never fail.
@@ -113,28 +155,27 @@ fn run_threaded<R: Threads + Wait + Sync, G: Gate + Sync>(
     rt: &R,
     alloc: Global,
     texts: &[&str],
-    list: Vec<(String, Vec<u8>)>,
+    list: FileList,
     gate: &G,
 ) -> Result<Ran, AllocError> {
     let words = words_of(alloc, texts)?;
     let mut files = SteadyFiles::new(list);
-    let mut out = sink(alloc, 16_384, Vec::new(alloc))?;
-    let mut err = sink(alloc, 16_384, Vec::new(alloc))?;
+    let mut out = sink(alloc, STEADY)?;
+    let mut err = sink(alloc, STEADY)?;
     let status = tool_threads(rt, alloc, &words, &mut files, &mut out, &mut err, gate);
     Ok(Ran { status, out, err })
 }
 
-/// Calls `tool` with files that give 4,096 bytes at a time, and whose call of this number fails.
-fn run_failing(
+/// Calls `tool` with files whose calls go as told.
+fn run_reading(
     alloc: Global,
     texts: &[&str],
-    list: Vec<(String, Vec<u8>)>,
-    number: u64,
+    list: FileList,
+    reads: Calls,
 ) -> Result<Ran, AllocError> {
-    let mut files = MemoryFiles::new(list, 4096, Vec::from_array(alloc, [number])?);
-    let out = sink(alloc, 16_384, Vec::new(alloc))?;
-    let err = sink(alloc, 16_384, Vec::new(alloc))?;
-    call(alloc, texts, &mut files, out, err)
+    let fails = numbers(alloc, reads)?;
+    let mut files = MemoryFiles::new(list, reads.step.max(1), fails);
+    call(alloc, texts, &mut files, STEADY, STEADY)
 }
 
 /// A call ended well, and wrote exactly this. The label says which of a table's rows it was.
@@ -163,7 +204,7 @@ fn refuses(
     rt: &impl Abort,
     alloc: Global,
     command: &str,
-    bytes: Vec<u8>,
+    bytes: &[u8],
     detail: &str,
 ) -> Result<(), AllocError> {
     let why = format!(in alloc; "input: {detail}")?;
@@ -180,11 +221,16 @@ const ZEROS_IMAGE: &[u8] = b"PMSIIMG1\x03\0\0\0\0\0\0\0\0\0\0\0\0\0\0\0\0\0\0\0"
 /// No word, and a piece of one byte at 64.
 const PIECE_IMAGE: &[u8] = b"PMSIIMG1\0\0\0\0\x01\0\0\0\x40\0\0\0\x01\0\0\0\xff";
 
+/// A word, a piece of two bytes at 4, and a piece of one byte that ends with memory.
+const PIECES_IMAGE: &[u8] =
+    b"PMSIIMG1\x01\0\0\0\x02\0\0\0\x73\0\0\0\x04\0\0\0\x02\0\0\0\xaa\xbb\xff\xff\x0f\0\x01\0\0\0\xcc";
+
 /// A command, the bytes of its file, and its result.
 const WRITTEN: &[(&str, &[u8], &[u8])] = &[
     ("image", ADDS_IMAGE, ADDS_IMAGE),
     ("image", ZEROS_IMAGE, ZEROS_IMAGE),
     ("image", PIECE_IMAGE, PIECE_IMAGE),
+    ("image", PIECES_IMAGE, PIECES_IMAGE),
     (
         "dis",
         ZEROS_IMAGE,
@@ -195,6 +241,11 @@ const WRITTEN: &[(&str, &[u8], &[u8])] = &[
         "dis",
         PIECE_IMAGE,
         b".text\n.data\n.org 0x00000040\n.byte 0xff\n",
+    ),
+    (
+        "dis",
+        PIECES_IMAGE,
+        b".text\necall\n.data\n.org 0x00000004\n.byte 0xaa, 0xbb\n.org 0x000fffff\n.byte 0xcc\n",
     ),
     ("asm", b"addi x5, x0, 7\necall\n", ADDS_IMAGE),
     ("asm", b".text\naddi x5, x0, 7\necall\n", ADDS_IMAGE),
@@ -233,8 +284,7 @@ const REFUSED: &[(&str, &[u8], &str)] = &[
 fn writes_results(rt: HostRuntime) -> Result<(), Fail> {
     let alloc = rt.alloc();
     for (command, bytes, text) in WRITTEN {
-        let list = one(alloc, bytes.to_vec(alloc)?)?;
-        let ran = run(alloc, &[command, "a.job"], list)?;
+        let ran = run(alloc, &[command, "a.job"], one(alloc, bytes)?)?;
         wrote(&rt, command, &ran, text);
     }
     Ok(())
@@ -244,7 +294,7 @@ fn writes_results(rt: HostRuntime) -> Result<(), Fail> {
 fn refuses_files(rt: HostRuntime) -> Result<(), Fail> {
     let alloc = rt.alloc();
     for (command, bytes, detail) in REFUSED {
-        refuses(&rt, alloc, command, bytes.to_vec(alloc)?, detail)?;
+        refuses(&rt, alloc, command, bytes, detail)?;
     }
     Ok(())
 }
@@ -254,7 +304,7 @@ fn refuses_large_files(rt: HostRuntime) -> Result<(), Fail> {
     let alloc = rt.alloc();
     for command in ["run", "asm", "dis"] {
         let large = vec![in alloc; 0u8; 16_777_217]?;
-        refuses(&rt, alloc, command, large, "large")?;
+        refuses(&rt, alloc, command, &large, "large")?;
     }
     Ok(())
 }
@@ -263,10 +313,7 @@ fn refuses_large_files(rt: HostRuntime) -> Result<(), Fail> {
 fn a_failed_write_leaves_a_front(rt: HostRuntime) -> Result<(), Fail> {
     let alloc = rt.alloc();
     let list = job_files(alloc, jobs::SMALL, &[jobs::ADDS])?;
-    let mut files = SteadyFiles::new(list);
-    let out = sink(alloc, 3, Vec::from_array(alloc, [2])?)?;
-    let err = sink(alloc, 1024, Vec::new(alloc))?;
-    let ran = call(alloc, &["run", "a.job"], &mut files, out, err)?;
+    let ran = run_writing(alloc, &["run", "a.job"], list, failing_at(3, 2), STEADY)?;
     assert_eq!(rt; ran.status, ToolStatus::WriteFault);
     assert!(rt; ran.out.bytes() == b"pms".as_slice());
     assert!(rt; ran.err.bytes() == b"write fault\n".as_slice());
@@ -276,10 +323,8 @@ fn a_failed_write_leaves_a_front(rt: HostRuntime) -> Result<(), Fail> {
 #[test]
 fn a_failed_line_is_a_write_fault(rt: HostRuntime) -> Result<(), Fail> {
     let alloc = rt.alloc();
-    let mut files = SteadyFiles::new(Vec::new(alloc));
-    let out = sink(alloc, 3, Vec::new(alloc))?;
-    let err = sink(alloc, 3, Vec::from_array(alloc, [2])?)?;
-    let ran = call(alloc, &["run", "a.job"], &mut files, out, err)?;
+    let words = ["run", "a.job"];
+    let ran = run_writing(alloc, &words, Vec::new(alloc), STEADY, failing_at(3, 2))?;
     assert_eq!(rt; ran.status, ToolStatus::WriteFault);
     assert!(rt; ran.out.bytes().is_empty());
     assert!(rt; ran.err.bytes() == b"rea".as_slice());
@@ -301,12 +346,9 @@ fn writes_the_most(
     rt: &impl Abort,
     alloc: Global,
     command: &str,
-    bytes: Vec<u8>,
+    bytes: &[u8],
 ) -> Result<(), AllocError> {
-    let mut files = SteadyFiles::new(one(alloc, bytes)?);
-    let out = MemorySink::new(vec![in alloc; 0u8; 65_552]?, 4096, Vec::new(alloc));
-    let err = sink(alloc, 1024, Vec::new(alloc))?;
-    let ran = call(alloc, &[command, "a.job"], &mut files, out, err)?;
+    let ran = run(alloc, &[command, "a.job"], one(alloc, bytes)?)?;
     assert_eq!(rt; ran.status, ToolStatus::Done);
     assert_eq!(rt; ran.out.bytes().len(), 65_552);
     Ok(())
@@ -317,7 +359,7 @@ fn takes_as_many_words_as_the_limit(rt: HostRuntime) -> Result<(), Fail> {
     let alloc = rt.alloc();
     let mut bytes = vec![in alloc; 0u8; 65_552]?;
     bytes[..16].copy_from_slice(b"PMSIIMG1\0\x40\0\0\0\0\0\0");
-    writes_the_most(&rt, alloc, "image", bytes)?;
-    writes_the_most(&rt, alloc, "asm", asm::full(alloc, "a:")?.into_bytes())?;
+    writes_the_most(&rt, alloc, "image", &bytes)?;
+    writes_the_most(&rt, alloc, "asm", asm::full(alloc, "a:")?.as_bytes())?;
     Ok(())
 }

@@ -1,18 +1,11 @@
 //! Calls by their words, and what they ask for.
+use super::words_of;
 use pmsi_model::Keep;
-use std::alloc::{AllocError, Global};
+use std::alloc::Global;
 use tool_words::{Asked, asked_of};
 
-fn list(alloc: Global, texts: &[&str]) -> Result<Vec<String>, AllocError> {
-    let mut words = Vec::new(alloc);
-    for text in texts {
-        words.push(String::from_str(alloc, text)?)?;
-    }
-    Ok(words)
-}
-
 fn asks(alloc: Global, texts: &[&str], expected: Option<Asked>) -> bool {
-    let Ok(words) = list(alloc, texts) else {
+    let Ok(words) = words_of(alloc, texts) else {
         return false;
     };
     asked_of(alloc, &words) == Ok(expected)

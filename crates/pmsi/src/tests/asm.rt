@@ -37,15 +37,14 @@ fn assembles(
     pieces: &[Piece],
 ) -> Result<(), AllocError> {
     let image = image_of(alloc, words, pieces)?;
-    let list = one(alloc, source.as_bytes().to_vec(alloc)?)?;
-    let ran = run(alloc, &["asm", "a.job"], list)?;
+    let ran = run(alloc, &["asm", "a.job"], one(alloc, source.as_bytes())?)?;
     wrote(rt, source, &ran, &image);
     Ok(())
 }
 
 /// A source is refused, and exactly this is told of it.
 fn finds(rt: &impl Abort, alloc: Global, source: &str, detail: &str) -> Result<(), AllocError> {
-    refuses(rt, alloc, "asm", source.as_bytes().to_vec(alloc)?, detail)
+    refuses(rt, alloc, "asm", source.as_bytes(), detail)
 }
 
 fn assembles_each(rt: &impl Abort, alloc: Global, rows: &[Text]) -> Result<(), AllocError> {

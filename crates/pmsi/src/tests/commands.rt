@@ -52,9 +52,9 @@ const REFUSED_SCRIPTS: &[(&[u8], &str)] = &[
     (b"fly\n\xff", "script: not text"),
 ];
 
-fn with_script(alloc: Global, script: &[u8]) -> Result<Vec<(String, Vec<u8>)>, AllocError> {
+fn with_script(alloc: Global, script: &[u8]) -> Result<FileList, AllocError> {
     let mut list = job_files(alloc, SEVEN_SLOTS, WRITES_AND_READS)?;
-    list.push((String::from_str(alloc, "a.dbg")?, script.to_vec(alloc)?))?;
+    add(alloc, &mut list, "a.dbg", script)?;
     Ok(list)
 }
 

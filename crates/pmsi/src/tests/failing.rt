@@ -6,10 +6,7 @@ use jobs::{LOCKING, LOCKS};
 /// A run of the job of four cores with locks over files that give 512 bytes at a time, and whose call of this number fails.
 fn read_failing(alloc: Global, number: u64) -> Result<Ran, AllocError> {
     let list = job_files(alloc, LOCKS, &LOCKING)?;
-    let mut files = MemoryFiles::new(list, 512, Vec::from_array(alloc, [number])?);
-    let out = sink(alloc, 16_384, Vec::new(alloc))?;
-    let err = sink(alloc, 16_384, Vec::new(alloc))?;
-    call(alloc, &["run", "a.job"], &mut files, out, err)
+    run_reading(alloc, &["run", "a.job"], list, failing_at(512, number))
 }
 
 /// Five files are opened, and each is read once and then at its end.
@@ -28,10 +25,13 @@ fn each_read_fails_once(rt: HostRuntime) -> Result<(), Fail> {
 /// A run of the two writers with a sink that takes 64 bytes at a time, and whose call of this number fails.
 fn write_failing(alloc: Global, number: u64) -> Result<Ran, AllocError> {
     let list = job_files(alloc, TWO_WRITERS.heads, TWO_WRITERS.sources)?;
-    let mut files = SteadyFiles::new(list);
-    let out = sink(alloc, 64, Vec::from_array(alloc, [number])?)?;
-    let err = sink(alloc, 16_384, Vec::new(alloc))?;
-    call(alloc, TWO_WRITERS.words, &mut files, out, err)
+    run_writing(
+        alloc,
+        TWO_WRITERS.words,
+        list,
+        failing_at(64, number),
+        STEADY,
+    )
 }
 
 #[test]
@@ -53,10 +53,7 @@ fn each_write_fails_once(rt: HostRuntime) -> Result<(), Fail> {
 #[test]
 fn a_line_fails_at_its_first_write(rt: HostRuntime) -> Result<(), Fail> {
     let alloc = rt.alloc();
-    let mut files = SteadyFiles::new(Vec::new(alloc));
-    let out = sink(alloc, 64, Vec::new(alloc))?;
-    let err = sink(alloc, 64, Vec::from_array(alloc, [1])?)?;
-    let ran = call(alloc, &["fly"], &mut files, out, err)?;
+    let ran = run_writing(alloc, &["fly"], Vec::new(alloc), STEADY, failing_at(64, 1))?;
     assert_eq!(rt; ran.status, ToolStatus::WriteFault);
     assert!(rt; ran.out.bytes().is_empty());
     assert!(rt; ran.err.bytes().is_empty());
@@ -69,8 +66,7 @@ fn images_are_cut_at_each_byte(rt: HostRuntime) -> Result<(), Fail> {
     for length in 0..ADDS_IMAGE.len() {
         let needed = if length < 16 { 16 } else { 24 };
         let detail = format!(in alloc; "short {needed} {length}")?;
-        let front = ADDS_IMAGE[..length].to_vec(alloc)?;
-        refuses(&rt, alloc, "image", front, detail.as_str())?;
+        refuses(&rt, alloc, "image", &ADDS_IMAGE[..length], detail.as_str())?;
     }
     Ok(())
 }

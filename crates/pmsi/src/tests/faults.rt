@@ -29,7 +29,7 @@ fn changed(alloc: Global, changes: &[Change]) -> Result<Vec<u8>, AllocError> {
 
 fn refuses_each(rt: &impl Abort, alloc: Global, rows: &[Changed]) -> Result<(), AllocError> {
     for (changes, detail) in rows {
-        refuses(rt, alloc, "run", changed(alloc, changes)?, detail)?;
+        refuses(rt, alloc, "run", &changed(alloc, changes)?, detail)?;
     }
     Ok(())
 }
@@ -43,7 +43,7 @@ fn finds_faults_of_jobs(rt: HostRuntime) -> Result<(), Fail> {
     refuses_each(&rt, alloc, ORDER)?;
     for change in WITHIN {
         let job = changed(alloc, &[*change, ("core 0", "")])?;
-        refuses(&rt, alloc, "run", job, "missing core 0")?;
+        refuses(&rt, alloc, "run", &job, "missing core 0")?;
     }
     Ok(())
 }
@@ -62,7 +62,7 @@ fn finds_what_is_no_job(rt: HostRuntime) -> Result<(), Fail> {
         (b"PMSIIMG1\0\0\0\0\0\0\0\0", "line 1: version"),
         (b"pmsi 1\ncores 1\r", "line 2: number"),
     ] {
-        refuses(&rt, alloc, "run", bytes.to_vec(alloc)?, detail)?;
+        refuses(&rt, alloc, "run", bytes, detail)?;
     }
     Ok(())
 }
@@ -81,11 +81,11 @@ fn wordy(alloc: Global, cores: &'static str, count: u32) -> Result<Vec<u8>, Allo
 fn counts_words(rt: HostRuntime) -> Result<(), Fail> {
     let alloc = rt.alloc();
     let job = wordy(alloc, "cores 1", 16_385)?;
-    refuses(&rt, alloc, "run", job, "limit core 0 16385")?;
+    refuses(&rt, alloc, "run", &job, "limit core 0 16385")?;
     let job = wordy(alloc, "cores 2", 16_385)?;
-    refuses(&rt, alloc, "run", job, "missing core 1")?;
-    let list = one(alloc, wordy(alloc, "cores 1", 16_384)?)?;
-    let ran = run(alloc, &["run", "a.job"], list)?;
+    refuses(&rt, alloc, "run", &job, "missing core 1")?;
+    let job = wordy(alloc, "cores 1", 16_384)?;
+    let ran = run(alloc, &["run", "a.job"], one(alloc, &job)?)?;
     assert_eq!(rt; ran.status, ToolStatus::Done);
     Ok(())
 }
@@ -117,8 +117,8 @@ fn finds_a_large_program(rt: HostRuntime) -> Result<(), Fail> {
     let alloc = rt.alloc();
     let programs = "core 0 asm a.s\ncore 1 asm none.s";
     let mut list = with_job(alloc, two(alloc, programs)?.as_str(), &[])?;
-    let name = String::from_str(alloc, "a.s")?;
-    list.push((name, vec![in alloc; b'\n'; 16_777_217]?))?;
+    let large = vec![in alloc; b'\n'; 16_777_217]?;
+    add(alloc, &mut list, "a.s", &large)?;
     let ran = run(alloc, &["run", "a.job"], list)?;
     refused(&rt, alloc, &ran, "core 0: large")?;
     Ok(())
@@ -177,11 +177,11 @@ fn each_read_fails_in_turn(rt: HostRuntime) -> Result<(), Fail> {
     ] {
         for number in 1..next {
             let list = job_files(alloc, jobs::SMALL, sources)?;
-            let ran = run_failing(alloc, &["run", "a.job"], list, number)?;
+            let ran = run_reading(alloc, &["run", "a.job"], list, failing_at(4096, number))?;
             told(&rt, why, &ran, ToolStatus::ReadFault, "read fault\n");
         }
         let list = job_files(alloc, jobs::SMALL, sources)?;
-        let ran = run_failing(alloc, &["run", "a.job"], list, next)?;
+        let ran = run_reading(alloc, &["run", "a.job"], list, failing_at(4096, next))?;
         refused(&rt, alloc, &ran, why)?;
     }
     Ok(())
@@ -193,10 +193,8 @@ fn reads_in_pieces(rt: HostRuntime) -> Result<(), Fail> {
     let alloc = rt.alloc();
     for step in [1u32, 7, 64] {
         let list = job_files(alloc, jobs::SMALL, &[jobs::ADDS])?;
-        let mut files = MemoryFiles::new(list, step.max(1), Vec::new(alloc));
-        let out = sink(alloc, 16_384, Vec::new(alloc))?;
-        let err = sink(alloc, 16_384, Vec::new(alloc))?;
-        let ran = call(alloc, &["run", "a.job"], &mut files, out, err)?;
+        let reads = Calls { step, fails: None };
+        let ran = run_reading(alloc, &["run", "a.job"], list, reads)?;
         wrote(&rt, "in pieces", &ran, jobs::ADDED.as_bytes());
     }
     Ok(())

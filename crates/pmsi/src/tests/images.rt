@@ -2,13 +2,10 @@
 ghost use Rattle.std.specs.Prelude.{◌≤◌, length};
 ghost use Rattle.pmsi_model.specs.declared.limits.TheConstants.{MAX_FILE_BYTES};
 
-use image_file::{ImageFault, read_image, write_image};
+use image_file::{ImageFault, read_image};
 use std::alloc::Global;
 use std::process::Abort;
 use std::test::*;
-
-/// Two words, and no piece.
-const TWO_WORDS: &[u8; 24] = b"PMSIIMG1\x02\0\0\0\0\0\0\0\x93\x02\x70\0\x73\0\0\0";
 
 /// Three words, and no piece.
 const THREE_WORDS: &[u8; 28] = b"PMSIIMG1\x03\0\0\0\0\0\0\0\x93\x02\x70\0\x13\0\0\0\x73\0\0\0";
@@ -21,40 +18,6 @@ fn finds(rt: &impl Abort, alloc: Global, bytes: &[u8], fault: Option<ImageFault>
     requires { length bytes.now ≤ MAX_FILE_BYTES }
 {
     assert_eq!(rt; read_image(alloc, bytes).err(), fault);
-}
-
-#[test]
-fn reads_and_writes(rt: HostRuntime) -> Result<(), Fail> {
-    let image = read_image(rt.alloc(), TWO_WORDS)
-        .ok()
-        .ok_or("two words are an image")?;
-    assert_eq!(rt; image.text(), [0x0070_0293u32, 0x0000_0073].as_slice());
-    assert_eq!(rt; image.pieces().len(), 0);
-    let bytes = write_image(rt.alloc(), &image)
-        .ok()
-        .ok_or("there is memory")?;
-    assert_eq!(rt; bytes.as_slice(), TWO_WORDS.as_slice());
-    Ok(())
-}
-
-#[test]
-fn reads_and_writes_pieces(rt: HostRuntime) -> Result<(), Fail> {
-    let image = read_image(rt.alloc(), TWO_PIECES)
-        .ok()
-        .ok_or("two pieces are an image")?;
-    assert_eq!(rt; image.text(), [0x0000_0073u32].as_slice());
-    let [first, second] = image.pieces() else {
-        return Err("there are two pieces")?;
-    };
-    assert_eq!(rt; first.address, 4);
-    assert_eq!(rt; first.bytes.as_slice(), [0xaau8, 0xbb].as_slice());
-    assert_eq!(rt; second.address, 0x000f_ffff);
-    assert_eq!(rt; second.bytes.as_slice(), [0xccu8].as_slice());
-    let bytes = write_image(rt.alloc(), &image)
-        .ok()
-        .ok_or("there is memory")?;
-    assert_eq!(rt; bytes.as_slice(), TWO_PIECES.as_slice());
-    Ok(())
 }
 
 #[test]

@@ -82,7 +82,7 @@ bound 8
 ";
 
 /// The files of that job.
-fn storing(alloc: Global) -> Result<Vec<(String, Vec<u8>)>, AllocError> {
+fn storing(alloc: Global) -> Result<FileList, AllocError> {
     let heads = "quantum 4\nline 4\nsets 1\nways 1\nmemory 64\nslots 1";
     job_files(alloc, heads, &["sw x11, 0(x0)\necall"])
 }
@@ -127,7 +127,7 @@ fn takes_odd_names(rt: HostRuntime) -> Result<(), Fail> {
     told(&rt, "empty", &ran, ToolStatus::ReadFault, "read fault\n");
     for name in ["--trace", "-a", "a b", "run", "\u{e4}=b"] {
         let mut list = Vec::new(alloc);
-        list.push((String::from_str(alloc, name)?, ADDS_IMAGE.to_vec(alloc)?))?;
+        add(alloc, &mut list, name, ADDS_IMAGE)?;
         let ran = run(alloc, &["image", "--", name], list)?;
         wrote(&rt, name, &ran, ADDS_IMAGE);
     }
