@@ -13,7 +13,7 @@ const SLOTS: u32 = 6;
 /// Both cores store 7 at address 0.
 fn both_write(rt: &impl Abort, alloc: Global) -> Result<Spread, AllocError> {
     let texts = alike(alloc, &WRITES_7, 2)?;
-    let job = job(rt, alloc, small(2, 1, SLOTS), texts)?;
+    let job = job(rt, alloc, small(2, SLOTS), texts)?;
     let Ok(spread) = Spread::open(alloc, &job) else {
         panic!(rt; "no memory")
     };

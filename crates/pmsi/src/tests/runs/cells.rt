@@ -56,7 +56,7 @@ fn follow(rt: &impl Abort, alloc: Global, course: Course) -> Result<(), AllocErr
     assert!(rt; course.texts.len() <= 4);
     let shape = Geometry {
         ways: course.ways,
-        ..small(course.texts.len() as u32, 1, 32)
+        ..small(course.texts.len() as u32, 32)
     };
     let mut sim = open(rt, alloc, shape, texts_of(rt, alloc, course)?)?;
     for states in course.states {
